@@ -1,0 +1,207 @@
+// Polynomials in two variables u and v, held as slices of numbers in the order of `specs/Order.antt`.
+ghost use mathlib.Core.Path.{_≡_};
+ghost use Prim.Native.Nat.{_+_, _*_, _^_, _≤_, _<_};
+ghost use lib.IntN.{pos, natAbs, pow};
+ghost use lib.ListN.{length};
+ghost use Rattle.polynomials.specs.Numbers.{ints};
+ghost use Rattle.polynomials.specs.Sum.{listed};
+ghost use Rattle.polynomials.specs.Order.{next, place};
+ghost use Rattle.polynomials.specs.Binomial.{choose};
+ghost use Rattle.polynomials.specs.Group.{own, value, weight, movedNumber, moved};
+ghost use Rattle.polynomials.specs.Limits.{cap, farthest, highest, against};
+ghost use Rattle.polynomials.specs.Ready.{Readable, Weighable, Movable};
+
+// No weight may pass it: 9 x 10^18.
+pub const CAP: u64 = 9_000_000_000_000_000_000;
+
+// The binomial numbers for powers 0 to 4, a row for each power.
+const ROWS: [[i64; 5]; 5] = [
+    [1, 0, 0, 0, 0],
+    [1, 1, 0, 0, 0],
+    [1, 2, 1, 0, 0],
+    [1, 3, 3, 1, 0],
+    [1, 4, 6, 4, 1],
+];
+
+// One of the two variables of a group.
+pub enum Variable {
+    First,
+    Second,
+}
+
+// A running sum of weights, until it passes the cap.
+pub enum Weighed {
+    Within(u64),
+    Passed,
+}
+
+// The powers of u and v that a number of a group stands before.
+pub struct Powers {
+    pub first: usize,
+    pub second: usize,
+}
+
+impl Powers {
+    // What stands at the next place.
+    pub fn next(self) -> Powers
+        requires { ⌜ self .second + 1 < 2 ^ 64 ⌝ }
+        ensures { λ r. ⌜ r ≡ next self ⌝ }
+    {
+        let p = self.first;
+        let q = self.second;
+        if p == 0 {
+            return Powers {
+                first: q + 1,
+                second: 0,
+            };
+        }
+        Powers {
+            first: p - 1,
+            second: q + 1,
+        }
+    }
+
+    // The power of the variable.
+    fn own(self, which: Variable) -> usize
+        ensures { λ r. ⌜ r ≡ own which (self .first) (self .second) ⌝ }
+    {
+        match which {
+            Variable::First => self.first,
+            Variable::Second => self.second,
+        }
+    }
+
+    // How many places further on the next larger power of the variable stands.
+    fn gap(self, which: Variable) -> usize
+        requires { ⌜ self .first + self .second + 2 < 2 ^ 64 ⌝ }
+        ensures { λ r. ⌜ r ≡ own which (self .first + self .second + 1) (self .first + self .second + 2) ⌝ }
+    {
+        let degree = self.first + self.second;
+        match which {
+            Variable::First => degree + 1,
+            Variable::Second => degree + 2,
+        }
+    }
+}
+
+// x to the powers 0 to 4.
+fn powers_of(x: i64) -> [i64; 5]
+    requires { ⌜ natAbs x ≤ farthest ⌝ }
+    ensures { λ r. ⌜ r ≡ listed 5 (pow x) ⌝ }
+{
+    let square = x * x;
+    let cube = square * x;
+    let fourth = cube * x;
+    [1, x, square, cube, fourth]
+}
+
+// k over p.
+fn binomial(k: usize, p: usize) -> i64
+    requires { ⌜ (k < 5) × (p < 5) ⌝ }
+    ensures { λ r. ⌜ r ≡ pos (choose k p) ⌝ }
+{
+    ROWS[k][p]
+}
+
+// The value of a group at the readings x and y.
+pub fn value_at(group: &[i64], x: i64, y: i64) -> i64
+    requires { ⌜ Readable (now group) x y ⌝ }
+    ensures { λ r. ⌜ r ≡ value (now (group .entry)) x y ⌝ }
+{
+    let xs = powers_of(x);
+    let ys = powers_of(y);
+    let mut sum: i64 = 0;
+    let mut w = Powers {
+        first: 0,
+        second: 0,
+    };
+    let mut at: usize = 0;
+    while at < group.len() {
+        let p = w.first;
+        let q = w.second;
+        sum += group[at] * xs[p] * ys[q];
+        w = w.next();
+        at += 1;
+    }
+    sum
+}
+
+// The sum with the magnitude of one more number, `factor` times, or that it passes the cap. The quotient tells before the product is formed.
+pub fn add_term(sum: u64, number: i64, factor: u64) -> Weighed
+    requires { ⌜ (sum ≤ cap) × (1 ≤ factor) ⌝ }
+    ensures { λ r. ⌜ r ≡ against (sum + natAbs number * factor) ⌝ }
+{
+    let m = whole::magnitude(number);
+    if m > (CAP - sum) / factor {
+        return Weighed::Passed;
+    }
+    Weighed::Within(sum + m * factor)
+}
+
+// The sum with the weight of a group at the reaches r and t, or that it passes the cap.
+pub fn add_weight(group: &[i64], r: i64, t: i64, sum: u64) -> Weighed
+    requires { ⌜ Weighable (now group) r t sum ⌝ }
+    ensures { λ s. ⌜ s ≡ against (sum + weight (now (group .entry)) (natAbs r) (natAbs t)) ⌝ }
+{
+    let rs = powers_of(r);
+    let ts = powers_of(t);
+    let mut total = sum;
+    let mut w = Powers {
+        first: 0,
+        second: 0,
+    };
+    let mut at: usize = 0;
+    while at < group.len() {
+        let p = w.first;
+        let q = w.second;
+        let factor = rs[p] * ts[q];
+        let Weighed::Within(more) = add_term(total, group[at], factor as u64) else {
+            return Weighed::Passed;
+        };
+        total = more;
+        w = w.next();
+        at += 1;
+    }
+    Weighed::Within(total)
+}
+
+// The number that stands at the place `at`, before the powers `w`, once the group is moved by s. The larger powers of the
+// variable stand further and further on; each number is multiplied by its power of s first, so that nothing is formed
+// that the weight does not bound.
+fn moved_number(from: &[i64], which: Variable, s: i64, at: usize, w: Powers) -> i64
+    requires { ⌜ Movable which s (now from) × ((at ≡ place (w .first) (w .second)) × (at < length (now from))) ⌝ }
+    ensures { λ r. ⌜ r ≡ movedNumber ints which s (now (from .entry)) (w .first) (w .second) ⌝ }
+{
+    let mut gap = w.gap(which);
+    let mut sum: i64 = 0;
+    let mut power: i64 = 1;
+    let mut i = at;
+    let mut j: usize = 0;
+    while i < from.len() {
+        let own = w.own(which);
+        sum += from[i] * power * binomial(own + j, own);
+        power = power * s;
+        i += gap;
+        gap += 1;
+        j += 1;
+    }
+    sum
+}
+
+// The group moved by s in one variable, written into `out`.
+pub fn move_group(from: &[i64], out: &mut [i64], which: Variable, s: i64)
+    requires { ⌜ Movable which s (now from) × (length (now out) ≡ length (now from)) ⌝ }
+    ensures { λ r. ⌜ now (out .exit) ≡ moved which s (now (from .entry)) ⌝ }
+{
+    let mut w = Powers {
+        first: 0,
+        second: 0,
+    };
+    let mut at: usize = 0;
+    while at < from.len() {
+        let x = moved_number(from, which, s, at, w);
+        out[at] = x;
+        w = w.next();
+        at += 1;
+    }
+}
