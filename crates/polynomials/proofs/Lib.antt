@@ -1,4 +1,16 @@
--- The laws of polynomials in two variables.
+-- The laws of polynomials in two variables, numbered as in the README.
+--   Semiring    the laws that both kinds of numbers have
+--   Sums        sums over a range
+--   Rows        one variable: all facts about multiplying out, once over the degree
+--   Places      the order of a group's numbers
+--   Listed      lists by their places
+--   Plane       two variables, by the numbers before uᵖvᵠ
+--   Moves       laws 1 to 3: values, one move after another, moves commute
+--   Unique      law 4: values determine the numbers
+--   Bounds      laws 5 and 6: what a weight bounds
+--   Together    law 7: any number of groups
+--   Cap, PowerRows, Spots   what the code's loops use: a sum against the cap, rows of powers, the places of one variable's powers
+--   controls    computed facts beside the definitions
 pub mod Semiring
 pub mod Sums
 pub mod Rows
@@ -6,9 +18,10 @@ pub mod Places
 pub mod Listed
 pub mod Plane
 pub mod Moves
-pub mod Bounds
 pub mod Unique
+pub mod Bounds
 pub mod Together
 pub mod Cap
 pub mod PowerRows
 pub mod Spots
+pub mod controls
