@@ -85,7 +85,7 @@ impl Powers {
 }
 
 // x to the powers 0 to 4.
-fn powers_of(x: i64) -> [i64; 5]
+pub fn powers_of(x: i64) -> [i64; 5]
     requires { ⌜ natAbs x ≤ farthest ⌝ }
     ensures { λ r. ⌜ r ≡ listed 5 (pow x) ⌝ }
 {

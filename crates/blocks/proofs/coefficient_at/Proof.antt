@@ -1,0 +1,224 @@
+-- `blocks::coefficient_at` meets its contract: the three groups that count are read where they stand, and their weights bound the sums.
+-- Assumes nothing.
+use mathlib.Core.Path.{_≡_, sym, _∙_, ap, ap₂, subst, subst₂}
+use mathlib.Core.List.{List, [], _∷_}
+use Prim.Native.Nat.{ℕ, _+_, _*_, _≤_, _<_, max}
+use native.Mathlib.Nat as N
+use native.Mathlib.Omega.{arith}
+use borrow.Author.Needs.{needs, sfits-of}
+use lib.IntN.{ℤ, pos, natAbs, _+ℤ_, +ℤ-idr}
+use lib.ListN.{length, take, drop, getD, length-take}
+use mir.Syntax.{w64}
+use mir.Val.{SFits, toZ, ofZ}
+use mir.Facts.{toZ-ofZ}
+use Rattle.whole.proofs.Magnitudes.{natAbs-+}
+use Rattle.whole.proofs.Machine.{natAbs-sfits, op-bits, op-back}
+use Rattle.polynomials.specs.Order.{below}
+use Rattle.polynomials.specs.Group.{value, weight}
+use Rattle.polynomials.specs.Groups.{Group, total, totalWeight}
+use Rattle.polynomials.specs.Limits.{cap}
+use Rattle.polynomials.specs.Ready.{Readable}
+use Rattle.polynomials.proofs.Bounds.{value-within}
+use Rattle.layout.specs.Shape.{kindsLength, cumulus}
+use Rattle.layout.specs.Blocks.{piece, coefficient}
+use Rattle.layout.specs.Reading.{readings}
+use Rattle.blocks.specs.Ready.{grouped, Valued}
+use Rattle.blocks.proofs.Parts.{coefficient-parts}
+use Rattle.blocks.proofs.coefficient_at.Statement.{statement}
+use Rattle.blocks.proofs.coefficient_at.Tie as tie
+
+-- ---- a block that can be read
+module _ (t : List ℤ) (b n : ℕ) (state : List ℤ) (ready : Valued t b n state) where
+  abbrev x : ℕ → ℤ
+  x = readings state
+
+  abbrev r : ℕ → ℕ
+  r i = max 1 (natAbs (x i))
+
+  abbrev own : List ℤ
+  own = take 10 (drop (11 + 50 * b + 10 * n) t)
+
+  abbrev xi : List ℤ
+  xi = take 15 (drop (11 + 50 * b + 20) t)
+
+  abbrev zeta : List ℤ
+  zeta = take 15 (drop (11 + 50 * b + 35) t)
+
+  abbrev three : List Group
+  three = grouped 0 3 own ∷ grouped 1 2 xi ∷ grouped 1 4 zeta ∷ []
+
+  weights : weight own (r 0) (r 3) + (weight xi (r 1) (r 2) + (weight zeta (r 1) (r 4) + 0)) ≤ cap
+  unfolding totalWeight
+  weights = subst (λ gs. totalWeight gs r ≤ cap) (coefficient-parts t b n (ready .half)) (ready .light)
+
+  -- the place of every group is inside the table
+  long : 11 + 50 * b + 50 ≤ length t
+  unfolding kindsLength below
+  long = omega (arith, ready .whole, ready .block)
+
+  -- a reading, as the code holds it
+  bits : (i : ℕ) → i < 5 → toZ w64 (ofZ w64 (x i)) ≡ x i
+  bits i h = toZ-ofZ (natAbs-sfits (x i) (omega (arith, ready .near i h)))
+
+  in-bits : (i j : ℕ) → i < 5 → j < 5 → (l : List ℤ) → Readable l (x i) (x j) → Readable l (toZ w64 (ofZ w64 (x i))) (toZ w64 (ofZ w64 (x j)))
+  in-bits i j a b l h = subst₂ (λ y z. Readable l y z) (sym (bits i a)) (sym (bits j b)) h
+
+  out-bits : (i j : ℕ) → i < 5 → j < 5 → (l : List ℤ) (z : ℤ) → SFits w64 z → z ≡ value l (toZ w64 (ofZ w64 (x i))) (toZ w64 (ofZ w64 (x j))) → toZ w64 (ofZ w64 z) ≡ value l (x i) (x j)
+  out-bits i j a b l z f e = toZ-ofZ f ∙ e ∙ ap₂ (value l) (bits i a) (bits j b)
+
+  readable : (i j a m : ℕ) → i < 5 → j < 5 → m ≤ 15 → weight (take m (drop a t)) (r i) (r j) ≤ cap → Readable (take m (drop a t)) (x i) (x j)
+  unfolding below
+  readable i j a m p q h l = record { few = omega (arith, length-take m (drop a t)); near-x = ready .near i p; near-y = ready .near j q; light = l }
+
+  read-own : Readable own (x 0) (x 3)
+  read-own = readable 0 3 (11 + 50 * b + 10 * n) 10 (omega arith) (omega arith) (omega arith) (omega (arith, weights))
+
+  read-xi : Readable xi (x 1) (x 2)
+  read-xi = readable 1 2 (11 + 50 * b + 20) 15 (omega arith) (omega arith) (omega arith) (omega (arith, weights))
+
+  read-zeta : Readable zeta (x 1) (x 4)
+  read-zeta = readable 1 4 (11 + 50 * b + 35) 15 (omega arith) (omega arith) (omega arith) (omega (arith, weights))
+
+  bound : (l : List ℤ) (i j : ℕ) → natAbs (value l (x i) (x j)) ≤ weight l (r i) (r j)
+  bound l i j = value-within l (x i) (x j) (r i) (r j) (N.le-max-right 1 (natAbs (x i))) (N.le-max-right 1 (natAbs (x j)))
+
+  abbrev sides : ℤ
+  sides = value xi (x 1) (x 2) +ℤ value zeta (x 1) (x 4)
+
+  sides-fit : SFits w64 sides
+  sides-fit = natAbs-sfits sides (omega (arith, weights, natAbs-+ (value xi (x 1) (x 2)) (value zeta (x 1) (x 4)), bound xi 1 2, bound zeta 1 4))
+
+  all-fit : SFits w64 (value own (x 0) (x 3) +ℤ sides)
+  all-fit =
+      natAbs-sfits (value own (x 0) (x 3) +ℤ sides)
+      (omega (arith, weights, natAbs-+ (value own (x 0) (x 3)) sides, natAbs-+ (value xi (x 1) (x 2)) (value zeta (x 1) (x 4)), bound own 0 3, bound xi 1 2, bound zeta 1 4))
+
+  all-is : value own (x 0) (x 3) +ℤ sides ≡ total (coefficient cumulus t b (piece n)) x
+  unfolding total
+  all-is =
+      ap (λ z. value own (x 0) (x 3) +ℤ (value xi (x 1) (x 2) +ℤ z)) (sym (+ℤ-idr (value zeta (x 1) (x 4))))
+      ∙ ap (λ gs. total gs x) (sym (coefficient-parts t b n (ready .half)))
+
+-- ---- the three values, as they come back
+module _ (c : tie.After-group-at3) where
+  abbrev start : tie.Start
+  start = c .before .before .before .before .before .before .before .before .before
+
+  abbrev table : List ℤ
+  table = start .args .table .now
+
+  abbrev at : ℕ → ℤ
+  at = readings (start .args .t4)
+
+  own-is : toZ w64 (ofZ w64 (c .before .before .before .before .before .before .group-at .result)) ≡ value (own table (start .args .block) (start .args .piece) (start .args .t4) (start .pre)) (at 0) (at 3)
+  own-is =
+      let g = c .before .before .before .before .before .before .group-at in
+      out-bits table (start .args .block) (start .args .piece) (start .args .t4) (start .pre) 0 3 (omega arith) (omega arith) _ (g .result) (sfits-of {z = g .result} (g .ok)) (g .ensures)
+
+  xi-is : toZ w64 (ofZ w64 (c .before .before .before .group-at2 .result)) ≡ value (xi table (start .args .block) (start .args .piece) (start .args .t4) (start .pre)) (at 1) (at 2)
+  xi-is =
+      let g = c .before .before .before .group-at2 in
+      out-bits table (start .args .block) (start .args .piece) (start .args .t4) (start .pre) 1 2 (omega arith) (omega arith) _ (g .result) (sfits-of {z = g .result} (g .ok)) (g .ensures)
+
+  zeta-is : toZ w64 (ofZ w64 (c .group-at3 .result)) ≡ value (zeta table (start .args .block) (start .args .piece) (start .args .t4) (start .pre)) (at 1) (at 4)
+  zeta-is =
+      let g = c .group-at3 in
+      out-bits table (start .args .block) (start .args .piece) (start .args .t4) (start .pre) 1 4 (omega arith) (omega arith) _ (g .result) (sfits-of {z = g .result} (g .ok)) (g .ensures)
+
+  sides-is : toZ w64 (ofZ w64 (toZ w64 (ofZ w64 (c .before .before .before .group-at2 .result)) +ℤ toZ w64 (ofZ w64 (c .group-at3 .result)))) ≡ sides table (start .args .block) (start .args .piece) (start .args .t4) (start .pre)
+  sides-is = op-back _+ℤ_ xi-is zeta-is (sides-fit table (start .args .block) (start .args .piece) (start .args .t4) (start .pre))
+
+mul-start : tie.Need-mul-start
+mul-start c = search needs
+
+add-start : tie.Need-add-start
+add-start c = search needs
+
+mul-group-at : tie.Need-mul-group-at
+mul-group-at c = search needs
+
+add-group-at : tie.Need-add-group-at
+add-group-at c = search needs
+
+array-copy-out-group-at : tie.Need-array-copy-out-group-at
+array-copy-out-group-at c = search needs
+
+array-copy-out-group-at-2 : tie.Need-array-copy-out-group-at-2
+array-copy-out-group-at-2 c = search needs
+
+group-at-requires : tie.Need-group-at-requires
+group-at-requires c κs =
+    let a = c .before .before in
+    let v = a .pre in (
+      omega (arith, long (a .args .table .now) (a .args .block) (a .args .piece) (a .args .t4) v, v .half),
+      in-bits (a .args .table .now) (a .args .block) (a .args .piece) (a .args .t4) v 0 3 (omega arith) (omega arith) _ (read-own (a .args .table .now) (a .args .block) (a .args .piece) (a .args .t4) v),
+    )
+
+add-group-at-2 : tie.Need-add-group-at-2
+add-group-at-2 c = search needs
+
+array-copy-out-group-at-3 : tie.Need-array-copy-out-group-at-3
+array-copy-out-group-at-3 c = search needs
+
+array-copy-out-group-at-4 : tie.Need-array-copy-out-group-at-4
+array-copy-out-group-at-4 c = search needs
+
+group-at-requires-2 : tie.Need-group-at-requires-2
+group-at-requires-2 c κs =
+    let a = c .before .before .before .before .before in
+    let v = a .pre in (
+      omega (arith, long (a .args .table .now) (a .args .block) (a .args .piece) (a .args .t4) v),
+      in-bits (a .args .table .now) (a .args .block) (a .args .piece) (a .args .t4) v 1 2 (omega arith) (omega arith) _ (read-xi (a .args .table .now) (a .args .block) (a .args .piece) (a .args .t4) v),
+    )
+
+add-group-at-3 : tie.Need-add-group-at-3
+add-group-at-3 c = search needs
+
+array-copy-out-group-at-5 : tie.Need-array-copy-out-group-at-5
+array-copy-out-group-at-5 c = search needs
+
+array-copy-out-group-at-6 : tie.Need-array-copy-out-group-at-6
+array-copy-out-group-at-6 c = search needs
+
+group-at-requires-3 : tie.Need-group-at-requires-3
+group-at-requires-3 c κs =
+    let a = c .before .before .before .before .before .before .before .before in
+    let v = a .pre in (
+      omega (arith, long (a .args .table .now) (a .args .block) (a .args .piece) (a .args .t4) v),
+      in-bits (a .args .table .now) (a .args .block) (a .args .piece) (a .args .t4) v 1 4 (omega arith) (omega arith) _ (read-zeta (a .args .table .now) (a .args .block) (a .args .piece) (a .args .t4) v),
+    )
+
+add-result : tie.Need-add-result
+add-result c = op-bits _+ℤ_ (xi-is c) (zeta-is c) (sides-fit (table c) (start c .args .block) (start c .args .piece) (start c .args .t4) (start c .pre))
+
+add-result-2 : tie.Need-add-result-2
+add-result-2 c = op-bits _+ℤ_ (own-is c) (sides-is c) (all-fit (table c) (start c .args .block) (start c .args .piece) (start c .args .t4) (start c .pre))
+
+returns : tie.Need-returns
+returns c =
+    let a = start c in
+    op-back _+ℤ_ (own-is c) (sides-is c) (all-fit (table c) (a .args .block) (a .args .piece) (a .args .t4) (a .pre))
+    ∙ all-is (table c) (a .args .block) (a .args .piece) (a .args .t4) (a .pre)
+
+pub coefficient-at-spec : {M : Type 1} → statement M
+coefficient-at-spec =
+    tie.close
+    (tie.spec
+    mul-start
+    add-start
+    mul-group-at
+    add-group-at
+    array-copy-out-group-at
+    array-copy-out-group-at-2
+    group-at-requires
+    add-group-at-2
+    array-copy-out-group-at-3
+    array-copy-out-group-at-4
+    group-at-requires-2
+    add-group-at-3
+    array-copy-out-group-at-5
+    array-copy-out-group-at-6
+    group-at-requires-3
+    add-result
+    add-result-2
+    returns)

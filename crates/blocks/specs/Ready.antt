@@ -1,0 +1,55 @@
+-- What the functions on one block ask of their callers.
+use mathlib.Core.Path.{_≡_}
+use mathlib.Core.List.{List, _++_}
+use Prim.Native.Nat.{ℕ, _-_, _≤_, _<_, max}
+use lib.IntN.{ℤ, pos, natAbs}
+use lib.ListN.{length, getD, take, drop}
+use Rattle.polynomials.specs.Order.{size}
+use Rattle.polynomials.specs.Groups.{Group, weightOf, totalWeight, longer}
+use Rattle.polynomials.specs.Limits.{cap, farthest, highest}
+use Rattle.layout.specs.Shape.{tableLength, blockLength, cumulus}
+use Rattle.layout.specs.Blocks.{Piece, piece, groups, chosen, coefficient}
+use Rattle.layout.specs.Reading.{readings}
+
+-- to read a block's coefficient at a state: the weight at the readings' own magnitudes is within the cap
+pub record Valued (t : List ℤ) (b n : ℕ) (x : List ℤ) : Type 0 where
+  pub whole : length t ≡ tableLength cumulus
+  pub block : b < cumulus .blocks
+  pub half : n < 2
+  pub near : (i : ℕ) → i < cumulus .variables → natAbs (readings x i) ≤ farthest
+  pub light : totalWeight (coefficient cumulus t b (piece n)) (λ i. max 1 (natAbs (readings x i))) ≤ cap
+
+abbrev pub grouped : ℕ → ℕ → List ℤ → Group
+grouped u v l = record { u = u; v = v; numbers = l }
+
+-- reaches of 1, variable i's longer by |s|
+abbrev pub shiftReach : ℕ → ℤ → ℕ → ℕ
+shiftReach i s = longer i (natAbs s) (λ k. 1)
+
+-- to move a group in the variables u and v by s in variable i
+pub record ShiftableGroup (u v i : ℕ) (s : ℤ) (l : List ℤ) : Type 0 where
+  pub apart : u ≡ v → ⊥
+  pub few : length l ≤ size highest
+  pub near : natAbs s ≤ farthest
+  pub light : weightOf (grouped u v l) (shiftReach i s) ≤ cap
+
+-- the numbers from a start to an end
+abbrev pub between : List ℤ → ℕ → ℕ → List ℤ
+between l a e = take (e - a) (drop a l)
+
+-- a list with other numbers from a start to an end
+abbrev pub placed : List ℤ → ℕ → ℕ → List ℤ → List ℤ
+placed l a e m = take a l ++ (m ++ drop e l)
+
+-- to move the group that stands from a to e of a block
+pub record Between (l out : List ℤ) (a e u v i : ℕ) (s : ℤ) : Type 0 where
+  pub same : length out ≡ length l
+  pub order : a ≤ e
+  pub inside : e ≤ length l
+  pub group : ShiftableGroup u v i s (between l a e)
+
+-- to move a block: what counts in each piece is within the cap
+pub record Shiftable (i : ℕ) (s : ℤ) (l : List ℤ) : Type 0 where
+  pub whole : length l ≡ blockLength cumulus
+  pub near : natAbs s ≤ farthest
+  pub light : (p : Piece) → totalWeight (chosen p (cumulus .kinds) (groups (cumulus .kinds) l)) (shiftReach i s) ≤ cap

@@ -1,0 +1,104 @@
+// One block of a table: the value of its coefficient, and its groups moved.
+ghost use mathlib.Core.Path.{_≡_};
+ghost use Prim.Native.Nat.{_+_, _<_, _≤_};
+ghost use lib.ListN.{length, take, drop};
+ghost use Rattle.polynomials.specs.Group.{value};
+ghost use Rattle.polynomials.specs.Ready.{Readable};
+ghost use Rattle.polynomials.specs.Groups.{total, movedGroup};
+ghost use Rattle.layout.specs.Shape.{cumulus};
+ghost use Rattle.layout.specs.Blocks.{coefficient, piece as pieceOf};
+ghost use Rattle.layout.specs.Reading.{readings};
+ghost use Rattle.layout.specs.Moving.{movedBlock};
+ghost use Rattle.blocks.specs.Ready.{grouped, between, placed, Valued, ShiftableGroup, Between, Shiftable};
+use layout::BLOCK;
+use layout::LIMITS;
+use layout::PITCH;
+use layout::SIDE;
+use layout::XI_START;
+use layout::ZETA_START;
+use polynomials::Variable;
+
+// The value of the group of `count` numbers that starts at a place of a table.
+fn group_at(table: &[i64], start: usize, count: usize, x: i64, y: i64) -> i64
+    requires { ⌜ (start + count ≤ length (now table)) × Readable (take count (drop start (now table))) x y ⌝ }
+    ensures { λ r. ⌜ r ≡ value (take count (drop start (now (table .entry)))) x y ⌝ }
+{
+    let end = start + count;
+    polynomials::value_at(&table[start..end], x, y)
+}
+
+// The coefficient of a block at a state, in the low piece (0) or the high one.
+pub fn coefficient_at(table: &[i64], block: usize, piece: usize, state: [i64; 5]) -> i64
+    requires { ⌜ Valued (now table) block piece state ⌝ }
+    ensures { λ r. ⌜ r ≡ total (coefficient cumulus (now (table .entry)) block (pieceOf piece)) (readings state) ⌝ }
+{
+    let start = LIMITS + BLOCK * block;
+    let pitch = group_at(table, start + PITCH * piece, PITCH, state[0], state[3]);
+    let aileron = group_at(table, start + XI_START, SIDE, state[1], state[2]);
+    let rudder = group_at(table, start + ZETA_START, SIDE, state[1], state[4]);
+    pitch + (aileron + rudder)
+}
+
+// The numbers as they are.
+fn copy(from: &[i64], out: &mut [i64])
+    requires { ⌜ length (now out) ≡ length (now from) ⌝ }
+    ensures { λ r. ⌜ now (out .exit) ≡ now (from .entry) ⌝ }
+{
+    let mut at: usize = 0;
+    while at < from.len() {
+        let x = from[at];
+        out[at] = x;
+        at += 1;
+    }
+}
+
+// A group in the variables u and v, moved by `shift` in one of the table's variables: in u, in v, or in neither.
+fn move_part(from: &[i64], out: &mut [i64], u: usize, v: usize, variable: usize, shift: i64)
+    requires { ⌜ (length (now out) ≡ length (now from)) × ShiftableGroup u v variable shift (now from) ⌝ }
+    ensures { λ r. ⌜ now (out .exit) ≡ movedGroup variable shift (grouped u v (now (from .entry))) .numbers ⌝ }
+{
+    if u == variable {
+        polynomials::move_group(from, out, Variable::First, shift);
+        return;
+    }
+    if v == variable {
+        polynomials::move_group(from, out, Variable::Second, shift);
+        return;
+    }
+    copy(from, out);
+}
+
+// The group that stands from `start` to `end` of a block, moved, at the same places of the output.
+fn move_between(
+    from: &[i64],
+    out: &mut [i64],
+    start: usize,
+    end: usize,
+    u: usize,
+    v: usize,
+    variable: usize,
+    shift: i64,
+)
+    requires { ⌜ Between (now from) (now out) start end u v variable shift ⌝ }
+    ensures { λ r. ⌜ now (out .exit) ≡ placed (now (out .entry)) start end (movedGroup variable shift (grouped u v (between (now (from .entry)) start end)) .numbers) ⌝ }
+{
+    move_part(
+        &from[start..end],
+        &mut out[start..end],
+        u,
+        v,
+        variable,
+        shift,
+    );
+}
+
+// A block with each of its groups moved, written into the part of the output that belongs to it.
+pub fn move_block(from: &[i64], out: &mut [i64], variable: usize, shift: i64)
+    requires { ⌜ (length (now out) ≡ length (now from)) × Shiftable variable shift (now from) ⌝ }
+    ensures { λ r. ⌜ now (out .exit) ≡ movedBlock cumulus variable shift (now (from .entry)) ⌝ }
+{
+    move_between(from, out, 0, PITCH, 0, 3, variable, shift);
+    move_between(from, out, PITCH, XI_START, 0, 3, variable, shift);
+    move_between(from, out, XI_START, ZETA_START, 1, 2, variable, shift);
+    move_between(from, out, ZETA_START, BLOCK, 1, 4, variable, shift);
+}

@@ -1,0 +1,62 @@
+-- The printed model: the report's equations (1), (3) and (4) over (5) to (38), at whole milliradians and in units of 10⁻¹⁷.
+use mathlib.Core.Bool.{cond}
+use mathlib.Core.List.{List, [], _∷_}
+use Prim.Native.Nat.{ℕ, _+_, _-_, _^_}
+use lib.IntN.{ℤ, pos, _+ℤ_, _*ℤ_, pow}
+use lib.Signed.{leZ}
+use Rattle.polynomials.specs.Numbers.{ints}
+use Rattle.polynomials.specs.Sum.{sum}
+use Rattle.cumulus.specs.Notation.{Polynomial}
+use Rattle.cumulus.specs.Printed.{C-Xα-pre, C-Yα-pre, C-Zα-pre, C-lα-pre, C-mα-pre, C-nα-pre, C-Xη-pre, C-Yη-pre, C-Zη-pre, C-lη-pre, C-mη-pre, C-nη-pre, C-Xα-post, C-Yα-post, C-Zα-post, C-lα-post, C-mα-post, C-nα-post, C-Xη-post, C-Yη-post, C-Zη-post, C-lη-post, C-mη-post, C-nη-post, C-Xξ, C-Yξ, C-Zξ, C-lξ, C-mξ, C-nξ, C-Xζ, C-Yζ, C-Zζ, C-lζ, C-mζ, C-nζ}
+
+-- ════ the six coefficients
+pub record Coefficient : Type 0 where
+  pub α-pre : Polynomial
+  pub η-pre : Polynomial
+  pub α-post : Polynomial
+  pub η-post : Polynomial
+  pub ξ : Polynomial
+  pub ζ : Polynomial
+
+abbrev pub C-X : Coefficient
+C-X = record { α-pre = C-Xα-pre; η-pre = C-Xη-pre; α-post = C-Xα-post; η-post = C-Xη-post; ξ = C-Xξ; ζ = C-Xζ }
+
+abbrev pub C-Y : Coefficient
+C-Y = record { α-pre = C-Yα-pre; η-pre = C-Yη-pre; α-post = C-Yα-post; η-post = C-Yη-post; ξ = C-Yξ; ζ = C-Yζ }
+
+abbrev pub C-Z : Coefficient
+C-Z = record { α-pre = C-Zα-pre; η-pre = C-Zη-pre; α-post = C-Zα-post; η-post = C-Zη-post; ξ = C-Zξ; ζ = C-Zζ }
+
+abbrev pub C-l : Coefficient
+C-l = record { α-pre = C-lα-pre; η-pre = C-lη-pre; α-post = C-lα-post; η-post = C-lη-post; ξ = C-lξ; ζ = C-lζ }
+
+abbrev pub C-m : Coefficient
+C-m = record { α-pre = C-mα-pre; η-pre = C-mη-pre; α-post = C-mα-post; η-post = C-mη-post; ξ = C-mξ; ζ = C-mζ }
+
+abbrev pub C-n : Coefficient
+C-n = record { α-pre = C-nα-pre; η-pre = C-nη-pre; α-post = C-nα-post; η-post = C-nη-post; ξ = C-nξ; ζ = C-nζ }
+
+abbrev pub coefficients : List Coefficient
+coefficients = C-X ∷ C-Y ∷ C-Z ∷ C-l ∷ C-m ∷ C-n ∷ []
+
+-- ════ their values
+-- what a number of degree n is scaled by: 10⁻⁵ is 1000⁴ × 10⁻¹⁷, and each of its n readings is 1000 times what it is in radians
+abbrev pub scale : ℕ → ℕ
+scale n = 1000 ^ (4 - n)
+
+-- a polynomial of degree at most 4 at two readings: each number, scaled, times uᵖvᵠ, over p + q ≤ 4
+unfoldable pub at : Polynomial → ℤ → ℤ → ℤ
+at f u v = sum ints 5 (λ q. sum ints (5 - q) (λ p. f p q *ℤ pos (scale (p + q)) *ℤ pow u p *ℤ pow v q))
+
+-- x has the readings of α, β, ξ, η and ζ, in this order, from 0 to 4
+-- (3)
+abbrev pub pre : Coefficient → (ℕ → ℤ) → ℤ
+pre C x = at (C .α-pre) (x 0) (x 3) +ℤ at (C .ξ) (x 1) (x 2) +ℤ at (C .η-pre) (x 0) (x 3) +ℤ at (C .ζ) (x 1) (x 4)
+
+-- (4)
+abbrev pub post : Coefficient → (ℕ → ℤ) → ℤ
+post C x = at (C .α-post) (x 0) (x 3) +ℤ at (C .ξ) (x 1) (x 2) +ℤ at (C .η-post) (x 0) (x 3) +ℤ at (C .ζ) (x 1) (x 4)
+
+-- (1), with the boundary of (2) between 313 and 314 milliradians
+abbrev pub modelValue : Coefficient → (ℕ → ℤ) → ℤ
+modelValue C x = cond (leZ (x 0) (pos 313)) (pre C x) (post C x)

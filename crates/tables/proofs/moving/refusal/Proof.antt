@@ -1,0 +1,197 @@
+-- `tables::moving::refusal` meets its contract: a shift past 4000 takes a limit out of its range; the longer reaches are those of the weight rule.
+-- Assumes nothing.
+use mathlib.Core.Path.{_≡_, sym, _∙_, ap, ap₂, subst}
+use mathlib.Core.Bool.{true, false}
+use mathlib.Core.List.{List, []}
+use Prim.Native.Nat.{ℕ, _≤_, _<_}
+use native.Mathlib.Omega.{arith}
+use borrow.Author.Needs.{needs}
+use borrow.Author.Tests.{not-true, not-false}
+use lib.IntN.{ℤ, pos, negsuc, natAbs}
+use mir.Syntax.{w64}
+use mir.Val.{SFits, toZ, ofZ}
+use mir.Facts.{toZ-ofZ}
+use Rattle.whole.proofs.Machine.{natAbs-sfits, lt-taken, lt-left}
+use Rattle.whole.proofs.Order.{from-two}
+use Rattle.polynomials.specs.Order.{below}
+use Rattle.layout.specs.Shape.{cumulus, kindsLength}
+use Rattle.layout.specs.Limits.{allInRange, good}
+use Rattle.layout.specs.Blocks.{low, high}
+use Rattle.layout.specs.Sound.{reach, withinCap}
+use Rattle.layout.specs.Moving.{movedLimits, moveReach, moveLight}
+use Rattle.layout.specs.Refusals.{limitPast, moveTooHeavy}
+use Rattle.layout.proofs.LimitLaws.{good-facts}
+use Rattle.layout.proofs.Refused.{first-skip, first-hit}
+use Rattle.weights.specs.Reaches.{reachesOf, Reaching}
+use Rattle.tables.proofs.Taken.{first-nothing, range-taken, moved-taken, listedReaches, light-listed}
+use Rattle.tables.proofs.MoveSteps.{past-low, past-high, longer-listed, move-far, lengthened, move-reaching}
+use Rattle.tables.proofs.moving.refusal.Statement.{statement}
+use Rattle.tables.proofs.moving.refusal.Tie as tie
+
+-- the table, the variable and the shift
+module _ (c : tie.Start) where
+  abbrev t : List ℤ
+  t = c .args .table .now
+
+  abbrev i : ℕ
+  i = c .args .variable
+
+  abbrev s : ℤ
+  s = c .args .shift
+
+  abbrev limits : List ℤ
+  limits = movedLimits cumulus i s t
+
+  shift-is : toZ w64 (ofZ w64 s) ≡ s
+  shift-is = toZ-ofZ (c .fits .shift)
+
+  far : 4000 < natAbs s → allInRange cumulus limits ≡ false
+  far = move-far t i s (c .pre .1 .0) (c .pre .1 .1)
+
+-- 4000 either way
+least-fits : SFits w64 (negsuc 3999)
+least-fits = natAbs-sfits (negsuc 3999) (omega arith)
+
+most-fits : SFits w64 (pos 4000)
+most-fits = natAbs-sfits (pos 4000) (omega arith)
+
+near : (c : tie.Else2) → natAbs (s (c .before .before)) ≤ 4000
+near c =
+    let f = c .before .before .fits .shift in
+    from-two (lt-left f least-fits (c .before .if1 .left)) (lt-left most-fits f (c .if2 .left))
+
+-- the moved limits, as they come back
+module _ (c : tie.After-moved) where
+  abbrev start : tie.Start
+  start = c .before .before .before .before
+
+  moved-is : c .moved .result .numbers ≡ limits start
+  moved-is = c .moved .ensures ∙ ap₂ (movedLimits cumulus (i start)) (shift-is start) (c .before .of .ensures) ∙ moved-taken (i start) (s start) (t start)
+
+in-range-is : (c : tie.After-in-range) → c .in-range .result ≡ allInRange cumulus (limits (start (c .before)))
+in-range-is c = c .in-range .ensures ∙ ap (allInRange cumulus) (moved-is (c .before))
+
+-- they are in range
+module _ (c : tie.Else3) where
+  abbrev there : tie.After-moved
+  there = c .before .before
+
+  abbrev from : tie.Start
+  from = start there
+
+  limits-in-range : allInRange cumulus (limits from) ≡ true
+  limits-in-range = sym (in-range-is (c .before)) ∙ not-false _ (c .if3 .left)
+
+  in-range : allInRange cumulus (there .moved .result .numbers) ≡ true
+  in-range = ap (allInRange cumulus) (moved-is there) ∙ limits-in-range
+
+  variable-in : i from < 5
+  variable-in = from .pre .1 .0
+
+  limits-good : good cumulus (t from) ≡ true
+  limits-good = from .pre .1 .1
+
+-- the reaches, as they come back and as they are made longer
+low-is : (c : tie.After-reaches) → c .reaches .result ≡ listedReaches (reach (limits (from (c .before))) low)
+low-is c = c .reaches .ensures ∙ ap (λ l. listedReaches (reach l low)) (moved-is (there (c .before)))
+
+high-is : (c : tie.After-reaches2) → c .reaches2 .result ≡ listedReaches (reach (limits (from (c .before .before .before))) high)
+high-is c = c .reaches2 .ensures ∙ ap (λ l. listedReaches (reach l high)) (moved-is (there (c .before .before .before)))
+
+module _ (c : tie.After-longer2) where
+  abbrev inside : tie.Else3
+  inside = c .before .before .before .before
+
+  abbrev origin : tie.Start
+  origin = from inside
+
+  longer-low-is : c .before .before .longer .result ≡ listedReaches (moveReach cumulus (i origin) (s origin) (t origin) low)
+  longer-low-is = c .before .before .longer .ensures ∙ longer-listed (reach (limits origin) low) (i origin) (variable-in inside) (low-is (c .before .before .before)) (shift-is origin)
+
+  longer-high-is : c .longer2 .result ≡ listedReaches (moveReach cumulus (i origin) (s origin) (t origin) high)
+  longer-high-is = c .longer2 .ensures ∙ longer-listed (reach (limits origin) high) (i origin) (variable-in inside) (high-is (c .before)) (shift-is origin)
+
+light-is : (c : tie.After-within-cap) → c .within-cap .result ≡ moveLight cumulus (i (origin (c .before))) (s (origin (c .before))) (t (origin (c .before)))
+light-is c =
+    let d = c .before in
+    let o = origin d in
+    c .within-cap .ensures ∙ (λ j. withinCap cumulus (t o) (reachesOf (longer-low-is d j) (longer-high-is d j))) ∙ light-listed (t o) (moveReach cumulus (i o) (s o) (t o))
+
+sub-if1 : tie.Need-sub-if1
+sub-if1 c = search needs
+
+returns : tie.Need-returns
+returns c = sym (first-hit limitPast _ (far (c .before) (past-low (lt-taken (c .before .fits .shift) least-fits (c .if1 .taken)))))
+
+returns-2 : tie.Need-returns-2
+returns-2 c = sym (first-hit limitPast _ (far (c .before .before) (past-high (lt-taken most-fits (c .before .before .fits .shift) (c .if2 .taken)))))
+
+of-requires : tie.Need-of-requires
+unfolding kindsLength below
+of-requires c κs = omega (arith, c .before .before .pre .0)
+
+moved-requires : tie.Need-moved-requires
+moved-requires c κs =
+    let o = c .before .before .before in
+    (ap (allInRange cumulus) (c .of .ensures) ∙ range-taken (t o) ∙ good-facts cumulus (t o) (o .pre .1 .1) .range, rw (shift-is o) (near (c .before)))
+
+in-range-requires : tie.Need-in-range-requires
+in-range-requires c κs = tt
+
+returns-3 : tie.Need-returns-3
+returns-3 c = sym (first-hit limitPast _ (sym (in-range-is (c .before)) ∙ not-true _ (c .if3 .taken)))
+
+reaches-requires : tie.Need-reaches-requires
+reaches-requires c κs = in-range c
+
+longer-requires : tie.Need-longer-requires
+longer-requires c κs =
+    let d = c .before in
+    let o = from d in
+    rw (shift-is o, low-is c) (lengthened (t o) (i o) (s o) (variable-in d) (limits-good d) (limits-in-range d) low)
+
+reaches-requires-2 : tie.Need-reaches-requires-2
+reaches-requires-2 c κs = in-range (c .before .before)
+
+longer-requires-2 : tie.Need-longer-requires-2
+longer-requires-2 c κs =
+    let d = c .before .before .before in
+    let o = from d in
+    rw (shift-is o, high-is c) (lengthened (t o) (i o) (s o) (variable-in d) (limits-good d) (limits-in-range d) high)
+
+within-cap-requires : tie.Need-within-cap-requires
+within-cap-requires c κs =
+    let d = inside c in
+    let o = origin c in
+    record {
+      whole = o .pre .0;
+      low = subst Reaching (sym (longer-low-is c)) (move-reaching (t o) (i o) (s o) (variable-in d) (limits-good d) (limits-in-range d) low);
+      high = subst Reaching (sym (longer-high-is c)) (move-reaching (t o) (i o) (s o) (variable-in d) (limits-good d) (limits-in-range d) high);
+    }
+
+returns-4 : tie.Need-returns-4
+returns-4 c =
+    sym (first-skip limitPast _ (limits-in-range (inside (c .before .before))) ∙ first-hit moveTooHeavy [] (sym (light-is (c .before)) ∙ not-true _ (c .if4 .taken)))
+
+returns-5 : tie.Need-returns-5
+returns-5 c =
+    sym (first-skip limitPast _ (limits-in-range (inside (c .before .before))) ∙ first-skip moveTooHeavy [] (sym (light-is (c .before)) ∙ not-false _ (c .if4 .left)) ∙ first-nothing)
+
+pub refusal-spec : {M : Type 1} → statement M
+refusal-spec =
+    tie.close
+    (tie.spec
+    sub-if1
+    returns
+    returns-2
+    of-requires
+    moved-requires
+    in-range-requires
+    returns-3
+    reaches-requires
+    longer-requires
+    reaches-requires-2
+    longer-requires-2
+    within-cap-requires
+    returns-4
+    returns-5)

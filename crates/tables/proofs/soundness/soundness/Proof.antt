@@ -1,0 +1,93 @@
+-- `tables::soundness::soundness` meets its contract: the limits taken from the table tell what the table's tell. Assumes nothing.
+use mathlib.Core.Path.{_≡_, refl, sym, _∙_, ap, subst}
+use mathlib.Core.Bool.{Bool, true, false, not}
+use mathlib.Core.List.{List, [], _∷_}
+use Prim.Native.Nat.{ℕ, _≤_}
+use native.Mathlib.Omega.{arith}
+use borrow.Author.Tests.{not-true, not-false}
+use lib.IntN.{ℤ}
+use lib.ListN.{length}
+use Rattle.layout.specs.Shape.{cumulus, kindsLength}
+use Rattle.polynomials.specs.Order.{below}
+use Rattle.layout.specs.Limits.{allInRange, good}
+use Rattle.layout.specs.Blocks.{low, high, piece}
+use Rattle.layout.specs.Sound.{reach, withinCap, light}
+use Rattle.layout.specs.Refusals.{first, _when_, badLimits, tooHeavy}
+use Rattle.layout.proofs.LimitLaws.{good-facts}
+use Rattle.layout.proofs.Refused.{first-skip, first-hit}
+use Rattle.weights.specs.Reaches.{reachesOf, Reaching, Checkable}
+use Rattle.tables.proofs.Taken.{first-nothing, taken, good-taken, range-taken, listedReaches, own-reaching, light-taken}
+use Rattle.tables.proofs.soundness.soundness.Statement.{statement}
+use Rattle.tables.proofs.soundness.soundness.Tie as tie
+
+module _ (c : tie.After-good2) where
+  abbrev table : List ℤ
+  table = c .before .before .args .table .now
+
+  good-is : c .good2 .result ≡ good cumulus table
+  good-is = c .good2 .ensures ∙ ap (good cumulus) (c .before .of .ensures) ∙ good-taken table
+
+-- the limits are good
+module _ (c : tie.Else1) where
+  abbrev t : List ℤ
+  t = table (c .before)
+
+  limits-good : good cumulus t ≡ true
+  limits-good = sym (good-is (c .before)) ∙ not-false _ (c .if1 .left)
+
+  in-range : allInRange cumulus (c .before .before .of .result .numbers) ≡ true
+  in-range = ap (allInRange cumulus) (c .before .before .of .ensures) ∙ range-taken t ∙ good-facts cumulus t limits-good .range
+
+-- the reaches, as they come back
+module _ (c : tie.After-reaches2) where
+  abbrev there : tie.Else1
+  there = c .before .before
+
+  low-is : c .before .reaches .result ≡ listedReaches (reach (taken (t there)) low)
+  low-is = c .before .reaches .ensures ∙ ap (λ l. listedReaches (reach l low)) (there .before .before .of .ensures)
+
+  high-is : c .reaches2 .result ≡ listedReaches (reach (taken (t there)) high)
+  high-is = c .reaches2 .ensures ∙ ap (λ l. listedReaches (reach l high)) (there .before .before .of .ensures)
+
+light-is : (c : tie.After-within-cap) → c .within-cap .result ≡ light cumulus (t (there (c .before)))
+light-is c =
+    let d = c .before in
+    c .within-cap .ensures ∙ (λ i. withinCap cumulus (t (there d)) (reachesOf (low-is d i) (high-is d i))) ∙ light-taken (t (there d)) (limits-good (there d))
+
+of-requires : tie.Need-of-requires
+unfolding kindsLength below
+of-requires c κs = omega (arith, c .pre)
+
+good-requires : tie.Need-good-requires
+good-requires c κs = tt
+
+returns : tie.Need-returns
+returns c = sym (first-hit badLimits _ (sym (good-is (c .before)) ∙ not-true _ (c .if1 .taken)))
+
+reaches-requires : tie.Need-reaches-requires
+reaches-requires c κs = in-range c
+
+reaches-requires-2 : tie.Need-reaches-requires-2
+reaches-requires-2 c κs = in-range (c .before)
+
+within-cap-requires : tie.Need-within-cap-requires
+within-cap-requires c κs =
+    let d = there c in
+    record {
+      whole = d .before .before .before .pre;
+      low = subst Reaching (sym (low-is c)) (own-reaching (t d) (limits-good d) low);
+      high = subst Reaching (sym (high-is c)) (own-reaching (t d) (limits-good d) high);
+    }
+
+returns-2 : tie.Need-returns-2
+returns-2 c =
+    sym (first-skip badLimits _ (limits-good (there (c .before .before))) ∙ first-hit tooHeavy [] (sym (light-is (c .before)) ∙ not-true _ (c .if2 .taken)))
+
+returns-3 : tie.Need-returns-3
+returns-3 c =
+    sym (first-skip badLimits _ (limits-good (there (c .before .before))) ∙ first-skip tooHeavy [] (sym (light-is (c .before)) ∙ not-false _ (c .if2 .left)) ∙ first-nothing)
+
+pub soundness-spec : {M : Type 1} → statement M
+soundness-spec =
+    tie.close
+    (tie.spec of-requires good-requires returns reaches-requires reaches-requires-2 within-cap-requires returns-2 returns-3)

@@ -1,0 +1,122 @@
+// Moving the datum of one variable of a table.
+ghost use mathlib.Core.Path.{_≡_};
+ghost use mathlib.Core.Bool.{true, not};
+ghost use mathlib.Core.List.{[], _∷_, _++_};
+ghost use Prim.Native.Nat.{_<_, _≤_};
+ghost use lib.IntN.{pos, natAbs, _+ℤ_};
+ghost use lib.ListN.{length, drop, getD, set};
+ghost use Rattle.layout.specs.Shape.{cumulus, limitsLength, tableLength};
+ghost use Rattle.layout.specs.Limits.{allInRange, good};
+ghost use Rattle.layout.specs.Moving.{movedLimits, movedTable, moveLight, moveNumber, moveOutput};
+ghost use Rattle.layout.specs.Refusals.{first, _when_, limitPast, moveTooHeavy};
+ghost use Rattle.tables.specs.Ready.{Lengthened, Moveable};
+use super::refusals::DONE;
+use super::refusals::LIMIT_PAST;
+use super::refusals::MOVE_TOO_HEAVY;
+use super::refusals::NO_VARIABLE;
+use super::refusals::WRONG_OUTPUT;
+use super::refusals::WRONG_TABLE;
+use super::soundness::soundness;
+use blocks::move_block;
+use layout::BLOCK;
+use layout::BLOCKS;
+use layout::LIMITS;
+use layout::TABLE;
+use layout::VARIABLES;
+use limits::Limits;
+use weights::within_cap;
+
+// No shift from one limit within -2000..2000 to another is longer.
+const LONGEST: i64 = 4000;
+
+// The reaches with that of one variable longer by the size of the shift.
+fn longer(reaches: [i64; VARIABLES], variable: usize, shift: i64) -> [i64; VARIABLES]
+    requires { ⌜ Lengthened reaches variable shift ⌝ }
+    ensures { λ r. ⌜ r ≡ set reaches variable (getD reaches variable (pos 0) +ℤ pos (natAbs shift)) ⌝ }
+{
+    let mut longer = reaches;
+    let reach = longer[variable];
+    let more = whole::magnitude(shift) as i64;
+    longer[variable] = reach + more;
+    longer
+}
+
+// The limits, written where an output has them.
+fn write_limits(limits: Limits, out: &mut [i64])
+    requires { ⌜ (length (limits .numbers) ≡ limitsLength cumulus) × (limitsLength cumulus ≤ length (now out)) ⌝ }
+    ensures { λ r. ⌜ now (out .exit) ≡ limits .numbers ++ drop (limitsLength cumulus) (now (out .entry)) ⌝ }
+{
+    let numbers = limits.numbers;
+    let mut k: usize = 0;
+    while k < LIMITS {
+        let number = numbers[k];
+        out[k] = number;
+        k += 1;
+    }
+}
+
+// The refusal of a move of a sound table: a limit that would leave its range, or the weight rule.
+pub fn refusal(table: &[i64], variable: usize, shift: i64) -> u64
+    requires { ⌜ (length (now table) ≡ tableLength cumulus) × ((variable < cumulus .variables) × (good cumulus (now table) ≡ true)) ⌝ }
+    ensures { λ r. ⌜ r ≡ first ((limitPast when not (allInRange cumulus (movedLimits cumulus variable shift (now (table .entry))))) ∷ (moveTooHeavy when not (moveLight cumulus variable shift (now (table .entry)))) ∷ []) ⌝ }
+{
+    if shift < -LONGEST {
+        return LIMIT_PAST;
+    }
+    if shift > LONGEST {
+        return LIMIT_PAST;
+    }
+    let limits = Limits::of(table).moved(variable, shift);
+    if !limits.in_range() {
+        return LIMIT_PAST;
+    }
+    let low = longer(limits.reaches(0), variable, shift);
+    let high = longer(limits.reaches(1), variable, shift);
+    if !within_cap(table, low, high) {
+        return MOVE_TOO_HEAVY;
+    }
+    DONE
+}
+
+// The moved table, written into `out`: the limits, then each block into the part that belongs to it.
+fn write_moved(table: &[i64], variable: usize, shift: i64, out: &mut [i64])
+    requires { ⌜ Moveable (now table) variable shift (now out) ⌝ }
+    ensures { λ r. ⌜ now (out .exit) ≡ movedTable cumulus variable shift (now (table .entry)) ⌝ }
+{
+    let limits = Limits::of(table).moved(variable, shift);
+    write_limits(limits, out);
+    let mut block: usize = 0;
+    while block < BLOCKS {
+        let start = LIMITS + BLOCK * block;
+        let end = start + BLOCK;
+        move_block(&table[start..end], &mut out[start..end], variable, shift);
+        block += 1;
+    }
+}
+
+// Writes the table with the zero of one variable moved by `shift` into `out`, or refuses and leaves `out` as it was. The moved
+// table answers at a reading less `shift` what this one answers at the reading.
+pub fn move_datum(table: &[i64], variable: usize, shift: i64, out: &mut [i64]) -> u64
+    ensures number { λ r. ⌜ r ≡ moveNumber cumulus (now (table .entry)) variable shift (now (out .entry)) ⌝ }
+    ensures output { λ r. ⌜ now (out .exit) ≡ moveOutput cumulus (now (table .entry)) variable shift (now (out .entry)) ⌝ }
+{
+    if table.len() != TABLE {
+        return WRONG_TABLE;
+    }
+    if out.len() != TABLE {
+        return WRONG_OUTPUT;
+    }
+    if variable >= VARIABLES {
+        return NO_VARIABLE;
+    }
+    let unsound = soundness(table);
+    if unsound != DONE {
+        return unsound;
+    }
+    let refused = refusal(table, variable, shift);
+    if refused != DONE {
+        return refused;
+    }
+    write_moved(table, variable, shift, out);
+    DONE
+}

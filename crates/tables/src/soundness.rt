@@ -1,0 +1,29 @@
+// Whether a table is sound.
+ghost use mathlib.Core.Path.{_≡_};
+ghost use mathlib.Core.Bool.{not};
+ghost use mathlib.Core.List.{[], _∷_};
+ghost use lib.ListN.{length};
+ghost use Rattle.layout.specs.Shape.{cumulus, tableLength};
+ghost use Rattle.layout.specs.Limits.{good};
+ghost use Rattle.layout.specs.Sound.{light};
+ghost use Rattle.layout.specs.Refusals.{first, _when_, badLimits, tooHeavy};
+use super::refusals::BAD_LIMITS;
+use super::refusals::DONE;
+use super::refusals::TOO_HEAVY;
+use limits::Limits;
+use weights::within_cap;
+
+// The refusal of a table that is not sound: first its limits, then its weights.
+pub fn soundness(table: &[i64]) -> u64
+    requires { ⌜ length (now table) ≡ tableLength cumulus ⌝ }
+    ensures { λ r. ⌜ r ≡ first ((badLimits when not (good cumulus (now (table .entry)))) ∷ (tooHeavy when not (light cumulus (now (table .entry)))) ∷ []) ⌝ }
+{
+    let limits = Limits::of(table);
+    if !limits.good() {
+        return BAD_LIMITS;
+    }
+    if !within_cap(table, limits.reaches(0), limits.reaches(1)) {
+        return TOO_HEAVY;
+    }
+    DONE
+}

@@ -1,0 +1,30 @@
+-- The forty terms of a coefficient in one piece: the ten of the piece's own group, then the fifteen of each side group.
+use mathlib.Core.Bool.{cond}
+use mathlib.Core.List.{List}
+use Prim.Native.Nat.{ℕ, _+_, _*_, _^_, _-_, _≤_}
+use lib.Dec.{ltb}
+use lib.IntN.{ℤ, pos, natAbs}
+use lib.ListN.{length}
+use lib.Signed.{_≤ℤ_}
+use Rattle.polynomials.specs.Order.{powers, size}
+use Rattle.polynomials.specs.Limits.{farthest, highest}
+
+-- in a group, the powers of two reaches at a place
+abbrev pub product : ℕ → ℕ → ℕ → ℕ
+product r s k = r ^ powers k .first * s ^ powers k .second
+
+-- the powers that term k counts with, at given reaches: of alpha and eta, of beta and xi, of beta and zeta
+unfoldable pub factorAt : (ℕ → ℕ) → ℕ → ℕ
+factorAt r k = cond (ltb k 10) (product (r 0) (r 3) k) (cond (ltb k 25) (product (r 1) (r 2) (k - 10)) (product (r 1) (r 4) (k - 25)))
+
+-- where the number of term k stands in a table, for the block b and the piece n: a block has the low group, the high group and the side groups
+unfoldable pub termPlace : ℕ → ℕ → ℕ → ℕ
+termPlace b n k = 11 + 50 * b + cond (ltb k 10) (10 * n + k) (10 + k)
+
+-- what the factors of a group ask: places for few enough of them, and the two reaches
+pub record Fillable (part : List ℕ) (r s : ℤ) : Type 0 where
+  pub few : length part ≤ size highest
+  pub one-r : pos 1 ≤ℤ r
+  pub one-s : pos 1 ≤ℤ s
+  pub near-r : natAbs r ≤ farthest
+  pub near-s : natAbs s ≤ farthest

@@ -1,0 +1,96 @@
+// The weights of the coefficients, against the cap.
+ghost use mathlib.Core.Path.{_≡_};
+ghost use Prim.Native.Nat.{_<_};
+ghost use lib.IntN.{pos, natAbs};
+ghost use lib.ListN.{length, getD};
+ghost use Rattle.polynomials.specs.Sum.{listed};
+ghost use Rattle.layout.specs.Shape.{cumulus};
+ghost use Rattle.layout.specs.Sound.{withinCap};
+ghost use Rattle.weights.specs.Reaches.{reachesOf, Reaching, Checkable};
+ghost use Rattle.weights.specs.Terms.{product, factorAt, termPlace, Fillable};
+use polynomials::Powers;
+use polynomials::Weighed;
+
+// Low and high.
+const PIECES: usize = 2;
+
+// How many terms the piece's own group has, which come first.
+const OWN: usize = 10;
+
+// Where the terms of beta and xi end.
+const XI_END: usize = 25;
+
+// Where those of beta and zeta end, the last of a coefficient in a piece.
+const TERMS: usize = 40;
+
+// Fills a group's part of the factors with the powers of the reaches r and s, in the order of the group's numbers.
+fn fill(part: &mut [u64], r: i64, s: i64)
+    requires { ⌜ Fillable (now part) r s ⌝ }
+    ensures { λ _. ⌜ now (part .exit) ≡ listed (length (now (part .entry))) (product (natAbs r) (natAbs s)) ⌝ }
+{
+    let rs = polynomials::powers_of(r);
+    let ss = polynomials::powers_of(s);
+    let mut w = Powers {
+        first: 0,
+        second: 0,
+    };
+    let mut at: usize = 0;
+    while at < part.len() {
+        let p = w.first;
+        let q = w.second;
+        let factor = rs[p] * ss[q];
+        part[at] = factor as u64;
+        w = w.next();
+        at += 1;
+    }
+}
+
+// The factor of each of the forty terms of a coefficient in one piece: powers of the reaches of alpha and eta for the first
+// ten, of beta and xi for the next fifteen, of beta and zeta for the last fifteen.
+pub fn factors(reaches: [i64; 5]) -> [u64; 40]
+    requires { ⌜ Reaching reaches ⌝ }
+    ensures { λ r. ⌜ r ≡ listed 40 (factorAt (λ i. natAbs (getD reaches i (pos 0)))) ⌝ }
+{
+    let mut f: [u64; 40] = [0; TERMS];
+    fill(&mut f[0..OWN], reaches[0], reaches[3]);
+    fill(&mut f[OWN..XI_END], reaches[1], reaches[2]);
+    fill(&mut f[XI_END..TERMS], reaches[1], reaches[4]);
+    f
+}
+
+// Where the number of a term stands in the table; the pieces share the side groups, which come after both of their own.
+fn term_place(block: usize, piece: usize, term: usize) -> usize
+    requires { ⌜ (block < 6) × ((piece < 2) × (term < 40)) ⌝ }
+    ensures { λ r. ⌜ r ≡ termPlace block piece term ⌝ }
+{
+    let start = layout::LIMITS + layout::BLOCK * block;
+    if term < OWN {
+        return start + OWN * piece + term;
+    }
+    start + OWN + term
+}
+
+// Whether every coefficient's weight in both pieces is within the cap, at the given reaches. It leaves at the first block
+// and piece whose weight passes.
+pub fn within_cap(table: &[i64], low: [i64; 5], high: [i64; 5]) -> bool
+    requires { ⌜ Checkable (now table) low high ⌝ }
+    ensures { λ r. ⌜ r ≡ withinCap cumulus (now (table .entry)) (reachesOf low high) ⌝ }
+{
+    let rows = [factors(low), factors(high)];
+    let mut ok = true;
+    'blocks: for block in 0..layout::BLOCKS {
+        for piece in 0..PIECES {
+            let mut sum: u64 = 0;
+            for term in 0..TERMS {
+                let at = term_place(block, piece, term);
+                let factor = rows[piece][term];
+                let Weighed::Within(more) = polynomials::add_term(sum, table[at], factor) else {
+                    ok = false;
+                    break 'blocks;
+                };
+                sum = more;
+            }
+        }
+    }
+    ok
+}
