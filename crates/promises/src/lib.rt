@@ -1,0 +1,1 @@
+// No code: the promises are in proofs/Promises.antt.
