@@ -1,39 +1,29 @@
 -- The first refusal that holds, among f 0, f 1, .., f (n - 1).
 --   first-none  0 where none holds
 --   first-at    the one at k, where it holds and none before it does
-use mathlib.Core.Path.{_≡_, refl, sym, _∙_, ap}
-use mathlib.Core.Bool.{true, false, cond}
-use mathlib.Core.List.{List, [], _∷_, _++_, append-assoc, append-nil}
-use Prim.Native.Nat.{ℕ, zero, suc, _<_}
-use native.Mathlib.Decide.{decLt}
+use mathlib.Core.Path.{_≡_, _∙_, ap}
+use mathlib.Core.Bool.{true, false}
+use Prim.Native.Nat.{ℕ, _<_}
 use native.Mathlib.Omega.{arith}
+use lib.ListN.{getD}
 use Rattle.polynomials.specs.Sum.{listed}
-use Rattle.layout.specs.Refusals.{Refusal, first}
+use Rattle.polynomials.proofs.Listed.{length-listed, getD-listed}
+use Rattle.layout.specs.Refusals.{Refusal, _when_, first, done}
+use Rattle.layout.proofs.Refused as R
 
-module _ (f : ℕ → Refusal) where
-  -- those that do not hold are passed over
-  first-past : (n : ℕ) → ((i : ℕ) → i < n → f i .holds ≡ false) → (rs : List Refusal) → first (listed n f ++ rs) ≡ first rs
-  unfolding listed first
-  first-past zero none rs = refl
-  first-past (suc n) none rs =
-      ap first (append-assoc (listed n f) (f n ∷ []) rs) ∙ first-past n (λ i h. none i (omega arith)) (f n ∷ rs)
-      ∙ ap (λ b. cond b (f n .number) (first rs)) (none n (omega arith))
+module _ (f : ℕ → Refusal) (n : ℕ) where
+  abbrev none-there : Refusal
+  none-there = done when false
 
-  pub first-none : (n : ℕ) → ((i : ℕ) → i < n → f i .holds ≡ false) → first (listed n f) ≡ 0
-  unfolding first
-  first-none n none = ap first (sym (append-nil (listed n f))) ∙ first-past n none []
+  at : (k : ℕ) → k < n → getD (listed n f) k none-there ≡ f k
+  at k h = getD-listed n f k none-there h
 
-  module _ (k : ℕ) (none : (i : ℕ) → i < k → f i .holds ≡ false) (one : f k .holds ≡ true) where
-    first-stop : (n : ℕ) → k < n → (rs : List Refusal) → first (listed n f ++ rs) ≡ f k .number
-    unfolding listed first
-    first-stop zero h rs = absurd (omega arith)
-    first-stop (suc n) h rs = ap first (append-assoc (listed n f) (f n ∷ []) rs) ∙ pick (λ b. first-stop n b (f n ∷ rs)) (decLt k n)
-      where
-        pick : (k < n → first (listed n f ++ (f n ∷ rs)) ≡ f k .number) → Dec (k < n) → first (listed n f ++ (f n ∷ rs)) ≡ f k .number
-        pick ih (yes b) = ih b
-        pick ih (no b) =
-            let q : n ≡ k = omega arith in
-            rw q (first-past k none (f k ∷ rs) ∙ ap (λ b. cond b (f k .number) (first rs)) one)
+  pub first-none : ((i : ℕ) → i < n → f i .holds ≡ false) → first (listed n f) ≡ 0
+  first-none none =
+      R.first-none none-there (listed n f) (λ k h. let b : k < n = omega (arith, length-listed n f) in
+      ap (λ r. r .holds) (at k b) ∙ none k b)
 
-    pub first-at : (n : ℕ) → k < n → first (listed n f) ≡ f k .number
-    first-at n h = ap first (sym (append-nil (listed n f))) ∙ first-stop n h []
+  pub first-at : (k : ℕ) → ((i : ℕ) → i < k → f i .holds ≡ false) → f k .holds ≡ true → k < n → first (listed n f) ≡ f k .number
+  first-at k none one h =
+      R.first-at none-there (listed n f) k (omega (arith, length-listed n f)) (λ i l. ap (λ r. r .holds) (at i (omega arith)) ∙ none i l) (ap (λ r. r .holds) (at k h) ∙ one)
+      ∙ ap (λ r. r .number) (at k h)

@@ -1,10 +1,10 @@
 -- The promises, sentence by sentence. Each is about the definitions that the contracts cite: what an operation gives back is `readNumber`, `moveNumber`
 -- or `publishNumber`, and what its lent space holds afterwards `readOutput`, `moveOutput` or `publishOutput`.
 -- That every call ends and meets this is proved of the code; `Tight` says that it leaves no choice. Assumes nothing.
-use mathlib.Core.Path.{_≡_, refl, sym, _∙_, ap, ap₂}
-use mathlib.Core.Bool.{Bool, true, false, not}
+use mathlib.Core.Path.{_≡_, refl, sym, _∙_, ap}
+use mathlib.Core.Bool.{true, false}
 use mathlib.Core.List.{List, map}
-use Prim.Native.Nat.{ℕ, _+_, _-_, _*_, _≤_, _<_}
+use Prim.Native.Nat.{ℕ, _-_, _≤_, _<_}
 use native.Mathlib.Omega.{arith}
 use lib.IntN.{ℤ, pos, negsuc, negℤ, natAbs, _+ℤ_}
 use lib.ListN.{length, getD}
@@ -20,23 +20,22 @@ use Rattle.layout.specs.Moving.{movedLimits, movedTable, moveReach, moveLight, 
 use Rattle.layout.proofs.Tests.{&&-left, &&-right, &&-both}
 use Rattle.layout.proofs.LimitLaws.{good-facts}
 use Rattle.layout.proofs.Weights.{InVariables, withinCap-fact, fact-withinCap, cumulus-variables}
-use Rattle.layout.proofs.Moved.{movedTable-twice, movedTable-nil, movedTable-back, movedTable-swap, length-movedTable}
+use Rattle.layout.proofs.Moved.{movedTable-twice, movedTable-nil, movedTable-back, movedTable-swap}
 use Rattle.layout.proofs.SoundMoved.{moved-good, moved-light, still-range, still-light}
 use Rattle.layout.proofs.ReadingMoved.{readNumber-moved, readOutput-moved}
+use Rattle.layout.proofs.Heavy.{smallest-heavy}
 use Rattle.layout.proofs.Refused.{read-given, read-kept, read-done, move-given, move-kept, move-done}
-use Rattle.layout.proofs.Accepted.{Readable, read-readable, Movable, move-movable}
+use Rattle.layout.proofs.Accepted.{Readable, read-readable, move-movable}
 use Rattle.cumulus.specs.Model.{coefficients, modelValue, scale}
 use Rattle.cumulus.specs.Envelope.{Envelope, farthestMove}
 use Rattle.cumulus.specs.Stored.{Multiple, degreeAt}
-use Rattle.cumulus.specs.Published.{published, publishNumber, publishOutput}
+use Rattle.cumulus.specs.Published.{published, publishOutput}
 use Rattle.cumulus.specs.Checked.{asked, checked}
-use Rattle.cumulus.proofs.Length.{published-length}
 use Rattle.cumulus.proofs.Answers.{other}
 use Rattle.cumulus.proofs.Envelope.{published-good, published-light, read-inside}
 use Rattle.cumulus.proofs.Model.{read-model}
 use Rattle.cumulus.proofs.Moves.{move-accepted}
 use Rattle.cumulus.proofs.Scaling.{scaling}
-use Rattle.cumulus.proofs.Heavy.{smallest-heavy}
 use Rattle.cumulus.proofs.Checked.{all-checked}
 
 -- ════ 1. A refusal writes nothing into the lent space.

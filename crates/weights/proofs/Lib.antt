@@ -1,5 +1,3 @@
--- The laws behind the operations on a table.
---   Every   tests at each number below n
+-- The laws behind the weight check.
 --   Terms   the terms of a coefficient
-pub mod Every
 pub mod Terms

@@ -29,7 +29,7 @@ use Rattle.layout.specs.Blocks.{Piece, piece, coefficient}
 use Rattle.layout.specs.Sound.{withinCap}
 use Rattle.weights.specs.Reaches.{reachesOf}
 use Rattle.weights.specs.Terms.{factorAt, termPlace}
-use Rattle.weights.proofs.Every.{every-zero, every-more, every-stops, every-ext}
+use Rattle.layout.proofs.Tests.{every-none, every-more, every-stops, every-ext}
 use Rattle.weights.proofs.Terms.{place-bound, positive, whole-length, weight-terms}
 use Rattle.weights.proofs.within_cap.Statement.{statement}
 use Rattle.weights.proofs.within_cap.Tie as tie
@@ -154,10 +154,10 @@ factors-requires-2 :
 factors-requires-2 c κs = search needs
 
 blocks2-holds : tie.Need-blocks2-holds Inv-loop2 μ-loop2 Inv-loop μ-loop Inv-blocks2 μ-blocks2
-blocks2-holds c = (search needs, every-zero _, search needs)
+blocks2-holds c = (search needs, every-none _, search needs)
 
 loop-holds : tie.Need-loop-holds Inv-loop2 μ-loop2 Inv-loop μ-loop Inv-blocks2 μ-blocks2
-loop-holds c = (search needs, every-zero _, search needs)
+loop-holds c = (search needs, every-none _, search needs)
 
 loop2-holds : tie.Need-loop2-holds Inv-loop2 μ-loop2 Inv-loop μ-loop Inv-blocks2 μ-blocks2
 loop2-holds c = (search needs, search needs, sym (sum-zero natural _), search needs)
@@ -220,7 +220,7 @@ loop-again c =
     let l = c .before in
     let e : l .loop2 .term ≡ 40 = omega arith in
     let h : Σ nats 40 (terms l) ≤ cap = subst (λ n. Σ nats n (terms l) ≤ cap) e (subst (λ n. n ≤ cap) (l .loop2 .inv .2) (l .loop2 .inv .1)) in
-    (search needs, every-more _ (pieces l .loop .piece) (pieces l .loop .inv .1) (le-leb _ _ h), search needs)
+    (search needs, every-more (pieces l .loop .piece) _ (pieces l .loop .inv .1) (le-leb _ _ h), search needs)
 
 add-block : tie.Need-add-block Inv-loop2 μ-loop2 Inv-loop μ-loop Inv-blocks2 μ-blocks2
 add-block c = search needs
@@ -234,7 +234,7 @@ blocks2-again c =
     let b = c .before .before .before in
     let e : p .piece ≡ 2 = omega arith in (
       search needs,
-      every-more _ (b .blocks2 .block) (b .blocks2 .inv .1) (subst (λ n. every n (fits (table (b .before)) (rows (b .before)) (b .blocks2 .block)) ≡ true) e (p .inv .1)),
+      every-more (b .blocks2 .block) _ (b .blocks2 .inv .1) (subst (λ n. every n (fits (table (b .before)) (rows (b .before)) (b .blocks2 .block)) ≡ true) e (p .inv .1)),
       search needs,
     )
 
@@ -252,9 +252,9 @@ returns-2 c =
     let h : cap < more d = passed-against (more d) (sym (c .enum-told .given .1) ∙ result-is d) in
     let s : more d ≤ Σ nats 40 (terms l) = sum-part (l .loop2 .term + 1) 40 (terms l) (omega arith) in
     let b : blockFits a (blocks l .blocks2 .block) ≡ false =
-    every-stops (fits (table a) (rows a) (blocks l .blocks2 .block)) (pieces l .loop .piece) 2 (omega arith) (lt-leb (Σ nats 40 (terms l)) cap (omega arith))
+    every-stops 2 (fits (table a) (rows a) (blocks l .blocks2 .block)) (pieces l .loop .piece) (omega arith) (lt-leb (Σ nats 40 (terms l)) cap (omega arith))
     in
-    sym (asked a ∙ every-stops (blockFits a) (blocks l .blocks2 .block) 6 (omega arith) b)
+    sym (asked a ∙ every-stops 6 (blockFits a) (blocks l .blocks2 .block) (omega arith) b)
 
 pub within-cap-spec : {M : Type 1} → statement M
 within-cap-spec =
