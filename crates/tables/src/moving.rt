@@ -56,7 +56,7 @@ fn write_limits(limits: Limits, out: &mut [i64])
 }
 
 // The refusal of a move of a sound table: a limit that would leave its range, or the weight rule.
-pub fn refusal(table: &[i64], variable: usize, shift: i64) -> u64
+fn refusal(table: &[i64], variable: usize, shift: i64) -> u64
     requires { ⌜ (length (now table) ≡ tableLength cumulus) × ((variable < cumulus .variables) × (good cumulus (now table) ≡ true)) ⌝ }
     ensures { λ r. ⌜ r ≡ first ((limitPast when not (allInRange cumulus (movedLimits cumulus variable shift (now (table .entry))))) ∷ (moveTooHeavy when not (moveLight cumulus variable shift (now (table .entry)))) ∷ []) ⌝ }
 {
