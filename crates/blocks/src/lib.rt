@@ -14,6 +14,7 @@ use layout::BLOCK;
 use layout::LIMITS;
 use layout::PITCH;
 use layout::SIDE;
+use layout::VARIABLES;
 use layout::XI_START;
 use layout::ZETA_START;
 use polynomials::Variable;
@@ -28,7 +29,7 @@ fn group_at(table: &[i64], start: usize, count: usize, x: i64, y: i64) -> i64
 }
 
 // The coefficient of a block at a state, in the low piece (0) or the high one.
-pub fn coefficient_at(table: &[i64], block: usize, piece: usize, state: [i64; 5]) -> i64
+pub fn coefficient_at(table: &[i64], block: usize, piece: usize, state: [i64; VARIABLES]) -> i64
     requires { ⌜ Valued (now table) block piece state ⌝ }
     ensures { λ r. ⌜ r ≡ total (coefficient cumulus (now (table .entry)) block (pieceOf piece)) (readings state) ⌝ }
 {

@@ -15,10 +15,11 @@ use super::soundness::soundness;
 use blocks::coefficient_at;
 use layout::BLOCKS;
 use layout::TABLE;
+use layout::VARIABLES;
 use limits::Limits;
 
 // Every coefficient at the state, in the low piece (0) or the high one.
-fn write_values(table: &[i64], piece: usize, state: [i64; 5], out: &mut [i64])
+fn write_values(table: &[i64], piece: usize, state: [i64; VARIABLES], out: &mut [i64])
     requires { ⌜ AllValued (now table) piece state (now out) ⌝ }
     ensures { λ r. ⌜ now (out .exit) ≡ listed (cumulus .blocks) (λ b. total (coefficient cumulus (now (table .entry)) b (pieceOf piece)) (readings state)) ⌝ }
 {
@@ -31,7 +32,7 @@ fn write_values(table: &[i64], piece: usize, state: [i64; 5], out: &mut [i64])
 }
 
 // Reads the six coefficients of a table at a state of five whole milliradians into `out`, or refuses and leaves `out` as it was.
-pub fn read(table: &[i64], state: [i64; 5], out: &mut [i64]) -> u64
+pub fn read(table: &[i64], state: [i64; VARIABLES], out: &mut [i64]) -> u64
     ensures number { λ r. ⌜ r ≡ readNumber cumulus (now (table .entry)) (readings state) (now (out .entry)) ⌝ }
     ensures output { λ r. ⌜ now (out .exit) ≡ readOutput cumulus (now (table .entry)) (readings state) (now (out .entry)) ⌝ }
 {

@@ -8,20 +8,23 @@ ghost use Rattle.layout.specs.Shape.{cumulus};
 ghost use Rattle.layout.specs.Sound.{withinCap};
 ghost use Rattle.weights.specs.Reaches.{reachesOf, Reaching, Checkable};
 ghost use Rattle.weights.specs.Terms.{product, factorAt, termPlace, Fillable};
+use layout::BLOCK;
+use layout::BLOCKS;
+use layout::LIMITS;
+use layout::PITCH;
+use layout::SIDE;
+use layout::VARIABLES;
 use polynomials::Powers;
 use polynomials::Weighed;
 
 // Low and high.
 const PIECES: usize = 2;
 
-// How many terms the piece's own group has, which come first.
-const OWN: usize = 10;
+// Of the terms of a coefficient in a piece, those of the piece's own group come first, then those of beta and xi.
+const XI_END: usize = PITCH + SIDE;
 
-// Where the terms of beta and xi end.
-const XI_END: usize = 25;
-
-// Where those of beta and zeta end, the last of a coefficient in a piece.
-const TERMS: usize = 40;
+// Those of beta and zeta are the last.
+const TERMS: usize = XI_END + SIDE;
 
 // Fills a group's part of the factors with the powers of the reaches r and s, in the order of the group's numbers.
 fn fill(part: &mut [u64], r: i64, s: i64)
@@ -47,13 +50,13 @@ fn fill(part: &mut [u64], r: i64, s: i64)
 
 // The factor of each of the forty terms of a coefficient in one piece: powers of the reaches of alpha and eta for the first
 // ten, of beta and xi for the next fifteen, of beta and zeta for the last fifteen.
-pub fn factors(reaches: [i64; 5]) -> [u64; 40]
+pub fn factors(reaches: [i64; VARIABLES]) -> [u64; TERMS]
     requires { ⌜ Reaching reaches ⌝ }
     ensures { λ r. ⌜ r ≡ listed 40 (factorAt (λ i. natAbs (getD reaches i (pos 0)))) ⌝ }
 {
-    let mut f: [u64; 40] = [0; TERMS];
-    fill(&mut f[0..OWN], reaches[0], reaches[3]);
-    fill(&mut f[OWN..XI_END], reaches[1], reaches[2]);
+    let mut f: [u64; TERMS] = [0; TERMS];
+    fill(&mut f[0..PITCH], reaches[0], reaches[3]);
+    fill(&mut f[PITCH..XI_END], reaches[1], reaches[2]);
     fill(&mut f[XI_END..TERMS], reaches[1], reaches[4]);
     f
 }
@@ -63,22 +66,22 @@ fn term_place(block: usize, piece: usize, term: usize) -> usize
     requires { ⌜ (block < 6) × ((piece < 2) × (term < 40)) ⌝ }
     ensures { λ r. ⌜ r ≡ termPlace block piece term ⌝ }
 {
-    let start = layout::LIMITS + layout::BLOCK * block;
-    if term < OWN {
-        return start + OWN * piece + term;
+    let start = LIMITS + BLOCK * block;
+    if term < PITCH {
+        return start + PITCH * piece + term;
     }
-    start + OWN + term
+    start + PITCH + term
 }
 
 // Whether every coefficient's weight in both pieces is within the cap, at the given reaches. It leaves at the first block
 // and piece whose weight passes.
-pub fn within_cap(table: &[i64], low: [i64; 5], high: [i64; 5]) -> bool
+pub fn within_cap(table: &[i64], low: [i64; VARIABLES], high: [i64; VARIABLES]) -> bool
     requires { ⌜ Checkable (now table) low high ⌝ }
     ensures { λ r. ⌜ r ≡ withinCap cumulus (now (table .entry)) (reachesOf low high) ⌝ }
 {
     let rows = [factors(low), factors(high)];
     let mut ok = true;
-    'blocks: for block in 0..layout::BLOCKS {
+    'blocks: for block in 0..BLOCKS {
         for piece in 0..PIECES {
             let mut sum: u64 = 0;
             for term in 0..TERMS {
