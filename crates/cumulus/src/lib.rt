@@ -1,5 +1,7 @@
 // The published Cumulus One table.
 use layout::TABLE;
+use layout::refusals::DONE;
+use layout::refusals::WRONG_OUTPUT;
 ghost use mathlib.Core.Path.{_≡_};
 ghost use Rattle.cumulus.specs.Published.{publishNumber, publishOutput};
 
@@ -349,12 +351,12 @@ pub fn publish(out: &mut [i64]) -> u64
     ensures output { λ r. ⌜ now (out .exit) ≡ publishOutput (now (out .entry)) ⌝ }
 {
     if out.len() != TABLE {
-        return 2;
+        return WRONG_OUTPUT;
     }
     let mut i: usize = 0;
     while i < TABLE {
         out[i] = PUBLISHED[i];
         i += 1;
     }
-    0
+    DONE
 }

@@ -1,4 +1,5 @@
-// Where the numbers of a Cumulus One table stand.
+// Where the numbers of a Cumulus One table stand, and the numbers given back.
+pub mod refusals;
 
 // The variables alpha, beta, xi, eta and zeta, and the coefficients X, Y, Z, l, m and n, a block for each.
 pub const VARIABLES: usize = 5;

@@ -1,6 +1,8 @@
 // The limits of the readings: read from a table, tested, moved, and held against a reading.
 use layout::LIMITS;
 use layout::VARIABLES;
+use layout::refusals::DONE;
+use layout::refusals::OUTSIDE;
 ghost use mathlib.Core.Path.{_≡_};
 ghost use mathlib.Core.Bool.{true, not, _&&_};
 ghost use Prim.Native.Nat.{_≤_, _<_, max};
@@ -25,9 +27,6 @@ const MOST: i64 = 2000;
 
 // The cut of variable 0 stands between its lowest and its highest reading.
 const CUT: usize = 1;
-
-// The refusal of variable 0 where its reading is outside; those of the others follow.
-const OUTSIDE: u64 = 11;
 
 // The limits of the readings, as the table has them.
 pub struct Limits {
@@ -266,7 +265,7 @@ impl Limits {
             }
             i += 1;
         }
-        0
+        DONE
     }
 
     // Whether a reading of variable 0 lies in the low piece.

@@ -8,14 +8,14 @@ ghost use Rattle.layout.specs.Shape.{cumulus};
 ghost use Rattle.layout.specs.Blocks.{coefficient, piece as pieceOf};
 ghost use Rattle.layout.specs.Reading.{readings, readNumber, readOutput};
 ghost use Rattle.tables.specs.Ready.{AllValued};
-use super::refusals::DONE;
-use super::refusals::WRONG_OUTPUT;
-use super::refusals::WRONG_TABLE;
 use super::soundness::soundness;
 use blocks::coefficient_at;
 use layout::BLOCKS;
 use layout::TABLE;
 use layout::VARIABLES;
+use layout::refusals::DONE;
+use layout::refusals::WRONG_OUTPUT;
+use layout::refusals::WRONG_TABLE;
 use limits::Limits;
 
 // Every coefficient at the state, in the low piece (0) or the high one.

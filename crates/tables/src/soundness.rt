@@ -7,9 +7,9 @@ ghost use Rattle.layout.specs.Shape.{cumulus, tableLength};
 ghost use Rattle.layout.specs.Limits.{good};
 ghost use Rattle.layout.specs.Sound.{light};
 ghost use Rattle.layout.specs.Refusals.{first, _when_, badLimits, tooHeavy};
-use super::refusals::BAD_LIMITS;
-use super::refusals::DONE;
-use super::refusals::TOO_HEAVY;
+use layout::refusals::BAD_LIMITS;
+use layout::refusals::DONE;
+use layout::refusals::TOO_HEAVY;
 use limits::Limits;
 use weights::within_cap;
 

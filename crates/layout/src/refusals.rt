@@ -17,3 +17,6 @@ pub const NO_VARIABLE: u64 = 5;
 pub const LIMIT_PAST: u64 = 6;
 
 pub const MOVE_TOO_HEAVY: u64 = 7;
+
+// The reading of variable 0 is outside its limits; the numbers of the other variables follow.
+pub const OUTSIDE: u64 = 11;
