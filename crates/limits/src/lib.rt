@@ -109,7 +109,7 @@ impl Limits {
     }
 
     // The lowest reading of a variable.
-    fn lowest(self, variable: usize) -> i64
+    pub fn lowest(self, variable: usize) -> i64
         requires { ⌜ variable < cumulus .variables ⌝ }
         ensures { λ r. ⌜ r ≡ lowest (self .numbers) variable ⌝ }
     {
@@ -119,7 +119,7 @@ impl Limits {
     }
 
     // The highest reading of a variable.
-    fn highest(self, variable: usize) -> i64
+    pub fn highest(self, variable: usize) -> i64
         requires { ⌜ variable < cumulus .variables ⌝ }
         ensures { λ r. ⌜ r ≡ highest (self .numbers) variable ⌝ }
     {

@@ -1,0 +1,151 @@
+-- Which number the door gives back, from the tests one after another, and the answer with it.
+--   named-not-finite, named-outside      the number of a step that refuses
+--   not-finite-number, none-not-finite, none-outside, past-finite   what the first refusal of the steps tells
+--   back-below, back-above, back-given, back-agreed   the reading handed back with a number
+--   unsound-small, door-wrong-table, door-unsound, door-sound   the number
+--   zero-refused, value-done, reading-is, refused-answer, done-answer   the answer with it
+use mathlib.Core.Path.{_≡_, refl, sym, _∙_, ap, ap₂}
+use mathlib.Core.Bool.{Bool, true, false, not, cond, _&&_, true≢false}
+use mathlib.Core.List.{List, [], _∷_, _++_}
+use Prim.Native.Nat.{ℕ, _+_, _-_, _≤_, _<_}
+use native.Mathlib.Decide.{decLt}
+use native.Mathlib.Omega.{arith}
+use borrow.Author.Tests.{eq-eqb, ne-eqb, le-leb, lt-leb, lt-ltb, le-ltb}
+use lib.Dec.{leb, ltb}
+use lib.IntN.{ℤ}
+use lib.ListN.{length}
+use lib.Ieee.{Float}
+use Rattle.layout.specs.Shape.{tableLength, cumulus}
+use Rattle.layout.specs.Limits.{good}
+use Rattle.layout.specs.Sound.{light}
+use Rattle.layout.specs.Refusals.{Refusal, _when_, first, unlessRefused, wrongTable, badLimits, tooHeavy, outside}
+use Rattle.layout.proofs.Refused.{first-skip, first-hit}
+use Rattle.limits.proofs.Firsts.{first-past, first-none, first-at}
+use Rattle.tables.proofs.Steps.{first-apart, unsound}
+use Rattle.rounding.specs.declared.Step.{Step}
+use Rattle.rounding.specs.declared.Step.the-variants.{Whole, NotFinite, Outside}
+use Rattle.door.specs.Steps.{positiveZero, notFinite, numberOf, handedBack, isNotFinite, isOutside}
+use Rattle.door.specs.Door.{roundedAll, stepAt, notFinites, outsides, doorNumber, forOutside, readingFor, doorReading, floatAt, doorValue, answerWith, doorAnswer, refusedWith}
+use Rattle.door.proofs.Firsts.{Found, none, at, found}
+
+-- ---- the refusals of steps
+pub named-not-finite : (i : ℕ) (r : Step) → isNotFinite r ≡ true → numberOf i r ≡ notFinite i
+named-not-finite i (Whole z) e = absurd (true≢false (sym e))
+named-not-finite i NotFinite e = refl
+named-not-finite i (Outside x) e = absurd (true≢false (sym e))
+
+pub named-outside : (i : ℕ) (r : Step) → isOutside r ≡ true → numberOf i r ≡ outside i
+named-outside i (Whole z) e = absurd (true≢false (sym e))
+named-outside i NotFinite e = absurd (true≢false (sym e))
+named-outside i (Outside x) e = refl
+
+module _ (s : ℕ → Step) where
+  abbrev pub refusedNotFinite : ℕ → Refusal
+  refusedNotFinite i = numberOf i (s i) when isNotFinite (s i)
+
+  abbrev pub refusedOutside : ℕ → Refusal
+  refusedOutside i = numberOf i (s i) when isOutside (s i)
+
+  module _ (n : ℕ) where
+    pub not-finite-number : (first (notFinites n s) ≡ 0 → ⊥) → 21 ≤ first (notFinites n s)
+    not-finite-number h = go (found refusedNotFinite n)
+      where
+        go : Found refusedNotFinite n → 21 ≤ first (notFinites n s)
+        go (none all) = absurd (h (first-none refusedNotFinite n all))
+        go (at k b before one) = omega (arith, first-at refusedNotFinite k before one n b, named-not-finite k (s k) one)
+
+    pub none-not-finite : first (notFinites n s) ≡ 0 → (i : ℕ) → i < n → isNotFinite (s i) ≡ false
+    none-not-finite e = go (found refusedNotFinite n)
+      where
+        go : Found refusedNotFinite n → (i : ℕ) → i < n → isNotFinite (s i) ≡ false
+        go (none all) = all
+        go (at k b before one) = absurd (omega (arith, first-at refusedNotFinite k before one n b, named-not-finite k (s k) one))
+
+    pub none-outside : first (outsides n s) ≡ 0 → (i : ℕ) → i < n → isOutside (s i) ≡ false
+    none-outside e = go (found refusedOutside n)
+      where
+        go : Found refusedOutside n → (i : ℕ) → i < n → isOutside (s i) ≡ false
+        go (none all) = all
+        go (at k b before one) = absurd (omega (arith, first-at refusedOutside k before one n b, named-outside k (s k) one))
+
+    pub past-finite : first (notFinites n s) ≡ 0 → first (notFinites n s ++ outsides n s) ≡ first (outsides n s)
+    past-finite e = first-past refusedNotFinite n (none-not-finite e) (outsides n s)
+
+  -- ---- the reading handed back
+  shut : (b : Bool) → (b && false) ≡ false
+  shut true = refl
+  shut false = refl
+
+  with-test : (n : ℕ) {b : Bool} → forOutside cumulus n ≡ b → readingFor cumulus s n ≡ cond b (handedBack (s (n - 11))) positiveZero
+  with-test n e = ap (λ b. cond b (handedBack (s (n - 11))) positiveZero) e
+
+  pub back-below : (n : ℕ) → n < 11 → readingFor cumulus s n ≡ positiveZero
+  back-below n h = with-test n (ap (λ b. b && ltb n 16) (lt-leb 11 n h))
+
+  pub back-above : (n : ℕ) → 16 ≤ n → readingFor cumulus s n ≡ positiveZero
+  back-above n h = with-test n (ap (λ b. leb 11 n && b) (le-ltb n 16 h) ∙ shut (leb 11 n))
+
+  pub back-given : (k : ℕ) → k < 5 → readingFor cumulus s (11 + k) ≡ handedBack (s k)
+  back-given k h =
+      let e : (11 + k) - 11 ≡ k = omega arith in
+      with-test (11 + k) (ap₂ _&&_ (le-leb 11 (11 + k) (omega arith)) (lt-ltb (11 + k) 16 (omega arith))) ∙ ap (λ j. handedBack (s j)) e
+
+-- it is that of one of the five variables
+pub back-agreed : (s r : ℕ → Step) → ((i : ℕ) → i < 5 → s i ≡ r i) → (n : ℕ) → readingFor cumulus s n ≡ readingFor cumulus r n
+back-agreed s r h n = go (decLt n 11) (decLt n 16)
+  where
+    go : Dec (n < 11) → Dec (n < 16) → readingFor cumulus s n ≡ readingFor cumulus r n
+    go (yes b) e = back-below s n b ∙ sym (back-below r n b)
+    go (no a) (yes b) =
+        let q : n ≡ 11 + (n - 11) = omega arith in
+        ap (readingFor cumulus s) q ∙ back-given s (n - 11) (omega arith) ∙ ap handedBack (h (n - 11) (omega arith)) ∙ sym (back-given r (n - 11) (omega arith)) ∙ ap (readingFor cumulus r) (sym q)
+    go (no a) (no b) = back-above s n (omega arith) ∙ sym (back-above r n (omega arith))
+
+-- ---- the number
+small : (g l : Bool) → first ((badLimits when not g) ∷ (tooHeavy when not l) ∷ []) < 11
+unfolding first
+small false l = omega arith
+small true false = omega arith
+small true true = omega arith
+
+pub unsound-small : (t : List ℤ) → first (unsound t) < 11
+unsound-small t = small (good cumulus t) (light cumulus t)
+
+module _ (t : List ℤ) (x : ℕ → Float) where
+  pub door-wrong-table : (length t ≡ tableLength cumulus → ⊥) → doorNumber cumulus t x ≡ wrongTable
+  unfolding doorNumber
+  door-wrong-table h = first-hit wrongTable _ (ne-eqb (length t) (tableLength cumulus) h)
+
+  module _ (a : length t ≡ tableLength cumulus) where
+    pub door-unsound : (n : ℕ) → n ≡ first (unsound t) → (n ≡ 0 → ⊥) → doorNumber cumulus t x ≡ n
+    unfolding doorNumber
+    door-unsound n e h =
+        first-skip wrongTable _ (eq-eqb (length t) (tableLength cumulus) a) ∙ first-apart (unsound t) (notFinites 5 (stepAt t x) ++ outsides 5 (stepAt t x)) (λ z. h (e ∙ z)) ∙ sym e
+
+    pub door-sound : (good cumulus t ≡ true) × (light cumulus t ≡ true) → doorNumber cumulus t x ≡ first (notFinites 5 (stepAt t x) ++ outsides 5 (stepAt t x))
+    unfolding doorNumber
+    door-sound g = first-skip wrongTable _ (eq-eqb (length t) (tableLength cumulus) a) ∙ first-skip badLimits _ (g .0) ∙ first-skip tooHeavy _ (g .1)
+
+  -- ---- the answer
+  abbrev value : ℕ → Float
+  value b = floatAt cumulus t (roundedAll x) b
+
+  pub zero-refused : (n : ℕ) → doorNumber cumulus t x ≡ n → 0 < n → (b : ℕ) → doorValue cumulus t x b ≡ positiveZero
+  unfolding doorValue
+  zero-refused n e h b = ap (λ q. cond q (value b) positiveZero) (ne-eqb (doorNumber cumulus t x) 0 (λ z. omega arith))
+
+  pub value-done : doorNumber cumulus t x ≡ 0 → (b : ℕ) → doorValue cumulus t x b ≡ value b
+  unfolding doorValue
+  value-done e b = ap (λ n. unlessRefused n (value b) positiveZero) e
+
+  pub reading-is : (n : ℕ) → doorNumber cumulus t x ≡ n → doorReading cumulus t x ≡ readingFor cumulus (stepAt t x) n
+  unfolding doorReading
+  reading-is n e = ap (readingFor cumulus (stepAt t x)) e
+
+  pub refused-answer : (n : ℕ) (back : Float) → doorNumber cumulus t x ≡ n → 0 < n → readingFor cumulus (stepAt t x) n ≡ back → refusedWith n back ≡ doorAnswer t x
+  refused-answer n back e h r = λ i.
+      answerWith (sym e i) (sym (reading-is n e ∙ r) i) (λ b. sym (zero-refused n e h b) i)
+
+  pub done-answer : doorNumber cumulus t x ≡ 0 → answerWith 0 positiveZero value ≡ doorAnswer t x
+  done-answer e = λ i.
+      answerWith (sym e i) (sym (reading-is 0 e ∙ back-below (stepAt t x) 0 (omega arith)) i) (λ b. sym (value-done e b) i)

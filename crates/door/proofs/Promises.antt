@@ -1,0 +1,147 @@
+-- What the contract of the door says, in the words of the paper. The contract gives every answer by `doorAnswer`, whose parts these are.
+--   number-told        the number, by the tests in their order
+--   number-read, value-read   five finite readings are answered as the whole-number read of the rounded readings
+--   rounded-nearest    each reading is rounded to the nearest whole number, a half to the even one
+--   zero-on-refusal    the six on a refusal
+--   reading-outside, reading-elsewhere   the place that hands a reading back
+--   one-answer         the contract allows one answer
+use mathlib.Core.Path.{_≡_, refl, sym, _∙_, ap}
+use mathlib.Core.Bool.{Bool, true, false, not, cond}
+use mathlib.Core.List.{List, _∷_, _++_}
+use Prim.Native.Nat.{ℕ, _+_, _-_, _<_}
+use native.Mathlib.Decide.{decLt}
+use native.Mathlib.Omega.{arith}
+use borrow.Author.Tests.{not-false, eq-eqb}
+use lib.Dec.{eqb}
+use lib.IntN.{ℤ, pos}
+use lib.ListN.{length, getD}
+use lib.Ieee.{Float}
+use lib.Ieee.Scale.{finite}
+use Rattle.polynomials.specs.Sum.{listed}
+use Rattle.polynomials.specs.Groups.{total}
+use Rattle.polynomials.proofs.Listed.{length-listed, getD-listed}
+use Rattle.layout.specs.Shape.{cumulus, tableLength}
+use Rattle.layout.specs.Limits.{lowest, highest, good}
+use Rattle.layout.specs.Sound.{light}
+use Rattle.layout.specs.Refusals.{Refusal, _when_, first, wrongTable, wrongOutput, badLimits, tooHeavy, outside}
+use Rattle.layout.specs.Blocks.{coefficient}
+use Rattle.layout.specs.Reading.{inside, pieceAt, values, readNumber, readOutput}
+use Rattle.layout.proofs.Refused.{read-given, read-kept}
+use Rattle.limits.proofs.Firsts.{first-past, first-none, first-at}
+use Rattle.tables.proofs.Steps.{first-apart}
+use Rattle.rounding.specs.Value.{numerator, denominator}
+use Rattle.rounding.specs.Nearest.{IsNearest}
+use Rattle.rounding.specs.Answer.{answerOf}
+use Rattle.rounding.proofs.Nearest.{reading-nearest}
+use Rattle.rounding.proofs.Answers.{zero-positive}
+use Rattle.door.specs.declared.Answer.{Answer}
+use Rattle.door.specs.Steps.{positiveZero, notFinite}
+use Rattle.door.specs.Door.{roundedAll, stepAt, notFinites, outsides, doorNumber, readingFor, doorReading, doorValue, doorAnswer}
+use Rattle.door.proofs.Firsts.{Found, none, at, found}
+use Rattle.door.proofs.Numbers.{refusedNotFinite, refusedOutside, named-not-finite, named-outside, past-finite, back-below, back-above, back-given, zero-refused, value-done, reading-is}
+use Rattle.door.proofs.Told.{not-finite-told, outside-told, given-told, first-same, outside-found}
+
+-- the tests of the table give none of the numbers from 11
+past-tests : (a b c : Bool) (n i : ℕ) → cond a wrongTable (cond b badLimits (cond c tooHeavy n)) ≡ 11 + i → n ≡ 11 + i
+past-tests true b c n i e = absurd (omega arith)
+past-tests false true c n i e = absurd (omega arith)
+past-tests false false true n i e = absurd (omega arith)
+past-tests false false false n i e = e
+
+module _ (t : List ℤ) (x : ℕ → Float) where
+  abbrev plainNotFinite : ℕ → Refusal
+  plainNotFinite i = notFinite i when not (finite (x i))
+
+  abbrev plainOutside : ℕ → Refusal
+  plainOutside i = outside i when not (inside t (roundedAll x) i)
+
+  not-finites-same : first (notFinites 5 (stepAt t x)) ≡ first (listed 5 plainNotFinite)
+  not-finites-same =
+      first-same (refusedNotFinite (stepAt t x)) plainNotFinite 5 (λ i h. not-finite-told (x i) (lowest t i) (highest t i)) (λ i e. named-not-finite i (stepAt t x i) e)
+
+  outsides-same : ((i : ℕ) → i < 5 → finite (x i) ≡ true) → first (outsides 5 (stepAt t x)) ≡ first (listed 5 plainOutside)
+  outsides-same f =
+      first-same (refusedOutside (stepAt t x)) plainOutside 5 (λ i h. outside-told (x i) (lowest t i) (highest t i) (f i h)) (λ i e. named-outside i (stepAt t x i) e)
+
+  tested : first (notFinites 5 (stepAt t x) ++ outsides 5 (stepAt t x)) ≡ first (listed 5 plainNotFinite ++ listed 5 plainOutside)
+  tested = go (found plainNotFinite 5)
+    where
+      go : Found plainNotFinite 5 → first (notFinites 5 (stepAt t x) ++ outsides 5 (stepAt t x)) ≡ first (listed 5 plainNotFinite ++ listed 5 plainOutside)
+      go (none all) =
+          past-finite (stepAt t x) 5 (not-finites-same ∙ first-none plainNotFinite 5 all) ∙ outsides-same (λ i h. not-false (finite (x i)) (all i h))
+          ∙ sym (first-past plainNotFinite 5 all (listed 5 plainOutside))
+      go (at k b before one) =
+          let apart : first (listed 5 plainNotFinite) ≡ 0 → ⊥ = λ z. omega (arith, first-at plainNotFinite k before one 5 b) in
+          first-apart (notFinites 5 (stepAt t x)) (outsides 5 (stepAt t x)) (λ z. apart (sym not-finites-same ∙ z)) ∙ not-finites-same
+          ∙ sym (first-apart (listed 5 plainNotFinite) (listed 5 plainOutside) apart)
+
+  -- The number is the first of these: the table's length, its limits, its weights, then over all five a float that is not finite, then a rounded
+  -- reading outside its limits.
+  pub number-told : doorNumber cumulus t x
+      ≡ first
+      ((wrongTable when not (eqb (length t) (tableLength cumulus)))
+      ∷ (badLimits when not (good cumulus t))
+      ∷ (tooHeavy when not (light cumulus t))
+      ∷ (listed 5 (λ i. notFinite i when not (finite (x i))) ++ listed 5 (λ i. outside i when not (inside t (roundedAll x) i))))
+  unfolding doorNumber first
+  number-told =
+      ap (λ n. cond (not (eqb (length t) (tableLength cumulus))) wrongTable (cond (not (good cumulus t)) badLimits (cond (not (light cumulus t)) tooHeavy n))) tested
+
+  -- Each finite reading is rounded to a whole number within a half of its exact value, which is even where it lies just a half away.
+  pub rounded-nearest : (i : ℕ) → IsNearest (numerator (x i)) (denominator (x i)) (roundedAll x i)
+  rounded-nearest i = reading-nearest (x i)
+
+  -- six zeros, as the whole-number read is given them
+  abbrev zeros : List ℤ
+  zeros = listed 6 (λ b. pos 0)
+
+  getD-values : (b : ℕ) → b < 6 → getD (values cumulus t (roundedAll x)) b (pos 0) ≡ total (coefficient cumulus t b (pieceAt t (roundedAll x))) (roundedAll x)
+  unfolding values
+  getD-values b h = getD-listed 6 (λ k. total (coefficient cumulus t k (pieceAt t (roundedAll x))) (roundedAll x)) b (pos 0) h
+
+  module _ (f : (i : ℕ) → i < 5 → finite (x i) ≡ true) where
+    -- Five finite readings are given the number of the whole-number read at the rounded readings.
+    pub number-read : doorNumber cumulus t x ≡ readNumber cumulus t (roundedAll x) zeros
+    unfolding doorNumber readNumber first
+    number-read =
+        let rest : ℕ → ℕ = λ n. cond (not (good cumulus t)) badLimits (cond (not (light cumulus t)) tooHeavy n) in
+        ap (λ n. cond (not (eqb (length t) (tableLength cumulus))) wrongTable (rest n))
+        (past-finite (stepAt t x) 5 (not-finites-same ∙ first-none plainNotFinite 5 (λ i h. ap not (f i h))) ∙ outsides-same f)
+        ∙ ap (λ q. cond (not (eqb (length t) (tableLength cumulus))) wrongTable (cond (not q) wrongOutput (rest (first (listed 5 plainOutside)))))
+        (sym (eq-eqb (length zeros) 6 (length-listed 6 (λ b. pos 0))))
+
+    -- And each of the six floats is that of the number which the whole-number read leaves in six zeros.
+    pub value-read : (b : ℕ) → b < 6 → doorValue cumulus t x b ≡ answerOf (getD (readOutput cumulus t (roundedAll x) zeros) b (pos 0))
+    value-read b h = go (decLt 0 (doorNumber cumulus t x))
+      where
+        go : Dec (0 < doorNumber cumulus t x) → doorValue cumulus t x b ≡ answerOf (getD (readOutput cumulus t (roundedAll x) zeros) b (pos 0))
+        go (no n) =
+            let e : doorNumber cumulus t x ≡ 0 = omega arith in
+            value-done t x e b ∙ ap answerOf (sym (getD-values b h)) ∙ ap (λ l. answerOf (getD l b (pos 0))) (sym (read-given cumulus t (roundedAll x) zeros (sym number-read ∙ e)))
+        go (yes n) =
+            zero-refused t x (doorNumber cumulus t x) refl n b ∙ sym zero-positive ∙ ap answerOf (sym (getD-listed 6 (λ k. pos 0) b (pos 0) h))
+            ∙ ap (λ l. answerOf (getD l b (pos 0))) (sym (read-kept cumulus t (roundedAll x) zeros (sym number-read) n))
+
+  -- On a refusal the six are positive zero.
+  pub zero-on-refusal : (doorNumber cumulus t x ≡ 0 → ⊥) → (b : ℕ) → doorValue cumulus t x b ≡ positiveZero
+  zero-on-refusal h = zero-refused t x (doorNumber cumulus t x) refl (omega (arith, h))
+
+  -- Where the reading of variable i is refused as outside, it is handed back as given.
+  pub reading-outside : (i : ℕ) → i < 5 → doorNumber cumulus t x ≡ outside i → doorReading cumulus t x ≡ x i
+  unfolding doorNumber first
+  reading-outside i h e =
+      let step = outside-found (stepAt t x) i h (past-tests (not (eqb (length t) (tableLength cumulus))) (not (good cumulus t)) (not (light cumulus t)) _ i e) in
+      reading-is t x (11 + i) e ∙ back-given (stepAt t x) i h ∙ given-told (x i) (lowest t i) (highest t i) step
+
+  -- With every other number, 0 included, positive zero is handed back.
+  pub reading-elsewhere : ((i : ℕ) → i < 5 → doorNumber cumulus t x ≡ outside i → ⊥) → doorReading cumulus t x ≡ positiveZero
+  reading-elsewhere h = reading-is t x (doorNumber cumulus t x) refl ∙ go (decLt (doorNumber cumulus t x) 11) (decLt (doorNumber cumulus t x) 16)
+    where
+      go : Dec (doorNumber cumulus t x < 11) → Dec (doorNumber cumulus t x < 16) → readingFor cumulus (stepAt t x) (doorNumber cumulus t x) ≡ positiveZero
+      go (yes a) b = back-below (stepAt t x) (doorNumber cumulus t x) a
+      go (no a) (no b) = back-above (stepAt t x) (doorNumber cumulus t x) (omega arith)
+      go (no a) (yes b) = absurd (h (doorNumber cumulus t x - 11) (omega arith) (omega arith))
+
+  -- Any two answers that the contract allows are equal.
+  pub one-answer : (a b : Answer) → a ≡ doorAnswer t x → b ≡ doorAnswer t x → a ≡ b
+  one-answer a b e g = e ∙ sym g

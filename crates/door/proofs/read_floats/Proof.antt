@@ -1,0 +1,263 @@
+-- `door::read_floats` meets its contract: each way out is the first refusal that holds, and the last gives the six floats. Assumes nothing.
+use mathlib.Core.Path.{_≡_, sym, _∙_, ap, ap₂, fun-ext}
+use mathlib.Core.Bool.{Bool, true, false, cond, _&&_}
+use mathlib.Core.List.{List, _++_}
+use Prim.Native.Nat.{ℕ, _<_}
+use native.Mathlib.Omega.{arith}
+use borrow.Author.Needs.{needs, sfits-of}
+use lib.IntN.{ℤ, pos}
+use lib.ListN.{length, getD}
+use lib.Signed.{leZ}
+use lib.Ieee.{Float, ofBits}
+use mir.Facts.{toZ-ofZ}
+use Rattle.polynomials.specs.Sum.{listed}
+use Rattle.polynomials.specs.Groups.{total}
+use Rattle.polynomials.proofs.Listed.{length-listed, getD-listed, listed-ext}
+use Rattle.layout.specs.Shape.{cumulus, tableLength}
+use Rattle.layout.specs.Limits.{lowest, highest, cut, good, allInRange}
+use Rattle.layout.specs.Blocks.{low, high, piece, coefficient}
+use Rattle.layout.specs.Sound.{light}
+use Rattle.layout.specs.Refusals.{first, _when_}
+use Rattle.layout.specs.Reading.{readings, pieceAt}
+use Rattle.layout.proofs.LimitLaws.{limits-take, lowest-same, highest-same, good-facts}
+use Rattle.layout.proofs.Accepted.{Readable}
+use Rattle.blocks.specs.Ready.{Valued}
+use Rattle.tables.proofs.Taken.{cut-taken, range-taken}
+use Rattle.tables.proofs.Steps.{whole-table, not-whole, first-apart, sound-facts, valued, positive}
+use Rattle.rounding.specs.Reading.{stepOf}
+use Rattle.rounding.specs.Answer.{answerOf}
+use Rattle.rounding.specs.declared.Step.{Step}
+use Rattle.rounding.specs.declared.Step.the-variants.{Whole}
+use Rattle.door.specs.Steps.{positiveZero, numberOf, wholeIn, isNotFinite, isOutside, stepsOf}
+use Rattle.door.specs.Door.{floats, roundedAll, stepAt, notFinites, outsides, doorNumber, readingFor, answerWith, doorAnswer}
+use Rattle.door.specs.declared.Answer.{Answer}
+use Rattle.door.proofs.Numbers.{door-wrong-table, door-unsound, door-sound, unsound-small, not-finite-number, past-finite, back-below, back-above, back-agreed, refused-answer, done-answer}
+use Rattle.door.proofs.Wholes.{step-whole, rounded-inside, total-agreed}
+use Rattle.door.proofs.read_floats.Statement.{statement}
+use Rattle.door.proofs.read_floats.Tie as tie
+
+-- ---- a sound table
+module _ (c : tie.Else2) where
+  abbrev start : tie.Start
+  start = c .before .before .before
+
+  abbrev t : List ℤ
+  t = start .args .table .now
+
+  abbrev x : ℕ → Float
+  x = floats (start .args .readings)
+
+  abbrev s : ℕ → Step
+  s = stepAt t x
+
+  table-whole : length t ≡ tableLength cumulus
+  table-whole = whole-table (c .before .before .if1 .left)
+
+  sound : (good cumulus t ≡ true) × (light cumulus t ≡ true)
+  sound = sound-facts t (sym (c .before .soundness .ensures) ∙ c .if2 .left)
+
+  number-is : doorNumber cumulus t x ≡ first (notFinites (cumulus .variables) s ++ outsides (cumulus .variables) s)
+  number-is = door-sound t x table-whole sound
+
+-- ---- its steps
+module _ (c : tie.After-steps-of) where
+  abbrev there : tie.Else2
+  there = c .before .before
+
+  same-step : (i : ℕ) → i < 5 → stepAt (c .before .of .result .numbers) (x there) i ≡ s there i
+  same-step i h =
+      ap (λ l. stepAt l (x there) i) (c .before .of .ensures)
+      ∙ ap₂ (stepOf (x there i)) (lowest-same (limits-take cumulus (t there)) i h) (highest-same (limits-take cumulus (t there)) i h)
+
+  step-is : (i : ℕ) → i < 5 → stepsOf (c .steps-of .result) i ≡ s there i
+  step-is i h =
+      ap (λ l. stepsOf l i) (c .steps-of .ensures) ∙ getD-listed 5 (stepAt (c .before .of .result .numbers) (x there)) i (Whole (pos 0)) h ∙ same-step i h
+
+  not-finites-are : notFinites 5 (stepsOf (c .steps-of .result)) ≡ notFinites 5 (s there)
+  not-finites-are = listed-ext (0 when true) 5 _ _ (λ i h. ap (λ r. numberOf i r when isNotFinite r) (step-is i h))
+
+  outsides-are : outsides 5 (stepsOf (c .steps-of .result)) ≡ outsides 5 (s there)
+  outsides-are = listed-ext (0 when true) 5 _ _ (λ i h. ap (λ r. numberOf i r when isOutside r) (step-is i h))
+
+unread-is : (c : tie.After-not-finite) → c .not-finite .result ≡ first (notFinites 5 (s (there (c .before))))
+unread-is c = c .not-finite .ensures ∙ ap first (not-finites-are (c .before))
+
+-- ---- five finite readings
+module _ (c : tie.After-outside) where
+  abbrev steps : tie.After-steps-of
+  steps = c .before .before .before
+
+  finite : first (notFinites 5 (s (there steps))) ≡ 0
+  finite = sym (unread-is (c .before .before)) ∙ c .before .if3 .left
+
+  outside-is : first (outsides 5 (stepsOf (steps .steps-of .result))) ≡ doorNumber cumulus (t (there steps)) (x (there steps))
+  outside-is = ap first (outsides-are steps) ∙ sym (number-is (there steps) ∙ past-finite (s (there steps)) 5 finite)
+
+  past-number : c .outside .result .number ≡ doorNumber cumulus (t (there steps)) (x (there steps))
+  past-number = ap (λ r. r .number) (c .outside .ensures) ∙ outside-is
+
+-- ---- five readings inside
+module _ (c : tie.After-wholes-in) where
+  abbrev past : tie.After-outside
+  past = c .before .before .before
+
+  abbrev d : tie.Else2
+  d = there (steps past)
+
+  abbrev w : ℕ → ℤ
+  w = readings (c .wholes-in .result)
+
+  nothing : doorNumber cumulus (t d) (x d) ≡ 0
+  nothing = sym (past-number past) ∙ c .before .if4 .left
+
+  within : first (outsides 5 (s d)) ≡ 0
+  within = sym (number-is d ∙ past-finite (s d) 5 (finite past)) ∙ nothing
+
+  state-is : (i : ℕ) → i < 5 → w i ≡ roundedAll (x d) i
+  state-is i h =
+      ap (λ l. getD l i (pos 0)) (c .wholes-in .ensures) ∙ getD-listed 5 (λ k. wholeIn (stepsOf (steps past .steps-of .result) k)) i (pos 0) h
+      ∙ ap wholeIn (step-is (steps past) i h ∙ step-whole (t d) (x d) (finite past) within i h)
+
+  readable : Readable cumulus (t d) w (listed 6 (λ b. pos 0))
+  readable = record {
+    table = table-whole d;
+    output = length-listed 6 (λ b. pos 0);
+    limits = sound d .0;
+    weights = sound d .1;
+    readings = λ i h. ap (λ z. leZ (lowest (t d) i) z && leZ z (highest (t d) i)) (state-is i h) ∙ rounded-inside (t d) (x d) (finite past) within i h;
+  }
+
+module _ (c : tie.After-in-low-piece) where
+  abbrev all : tie.After-wholes-in
+  all = c .before .before
+
+  low-is : c .in-low-piece .result ≡ leZ (w all 0) (cut (t (d all)))
+  low-is =
+      c .in-low-piece .ensures
+      ∙ ap₂ leZ (toZ-ofZ (sfits-of {z = w all 0} (c .before .in-low-piece-arg .given))) (ap cut (steps (past all) .before .of .ensures) ∙ cut-taken (t (d all)))
+
+  piece-is : (b : Bool) → c .in-low-piece .result ≡ b → pieceAt (t (d all)) (w all) ≡ cond b low high
+  piece-is b e = ap (λ z. cond z low high) (sym low-is ∙ e)
+
+  all-valued : (n : ℕ) → n < 2 → pieceAt (t (d all)) (w all) ≡ piece n → (b : ℕ) → b < 6 → Valued (t (d all)) b n (all .wholes-in .result)
+  all-valued n h e = valued (t (d all)) (all .wholes-in .result) (listed 6 (λ b. pos 0)) n h e (readable all)
+
+  answers : (n : ℕ) → pieceAt (t (d all)) (w all) ≡ piece n → (r : Answer)
+      → r ≡ answerWith 0 positiveZero (λ b. answerOf (total (coefficient cumulus (t (d all)) b (piece n)) (w all)))
+      → r ≡ doorAnswer (t (d all)) (x (d all))
+  answers n e r h =
+      let same : piece n ≡ pieceAt (t (d all)) (roundedAll (x (d all))) = sym e ∙ ap (λ z. cond (leZ z (cut (t (d all)))) low high) (state-is all 0 (omega arith)) in
+      h
+      ∙ ap (answerWith 0 positiveZero)
+      (fun-ext (λ b. ap answerOf (total-agreed (w all) (roundedAll (x (d all))) (state-is all) (t (d all)) b (piece n) ∙ ap (λ p. total (coefficient cumulus (t (d all)) b p) (roundedAll (x (d all)))) same)))
+      ∙ done-answer (t (d all)) (x (d all)) (nothing all)
+
+refused-requires : tie.Need-refused-requires
+refused-requires c κs = search needs
+
+returns : tie.Need-returns
+unfolding ofBits
+returns c =
+    let a = c .before .before .args in
+    let e = door-wrong-table (a .table .now) (floats (a .readings)) (not-whole (c .before .if1 .taken)) in
+    c .refused .ensures ∙ refused-answer (a .table .now) (floats (a .readings)) 1 positiveZero e (omega arith) (back-below (stepAt (a .table .now) (floats (a .readings))) 1 (omega arith))
+
+soundness-requires : tie.Need-soundness-requires
+soundness-requires c κs = whole-table (c .if1 .left)
+
+refused-requires-2 : tie.Need-refused-requires-2
+refused-requires-2 c κs = search needs
+
+returns-2 : tie.Need-returns-2
+unfolding ofBits
+returns-2 c =
+    let a = c .before .before .before .before .args in
+    let n = c .before .before .soundness .result in
+    let e = c .before .before .soundness .ensures in
+    let number = door-unsound (a .table .now) (floats (a .readings)) (whole-table (c .before .before .before .if1 .left)) n e (c .before .if2 .taken) in
+    c .refused2 .ensures
+    ∙ refused-answer (a .table .now) (floats (a .readings)) n positiveZero number (positive (c .before .if2 .taken))
+    (back-below (stepAt (a .table .now) (floats (a .readings))) n (omega (arith, e, unsound-small (a .table .now))))
+
+of-requires : tie.Need-of-requires
+of-requires c κs = search needs
+
+steps-of-requires : tie.Need-steps-of-requires
+steps-of-requires c κs =
+    let d = c .before in
+    ap (allInRange cumulus) (c .of .ensures) ∙ range-taken (t d) ∙ good-facts cumulus (t d) (sound d .0) .range
+
+not-finite-requires : tie.Need-not-finite-requires
+not-finite-requires c κs = search needs
+
+refused-requires-3 : tie.Need-refused-requires-3
+refused-requires-3 c κs = search needs
+
+returns-3 : tie.Need-returns-3
+unfolding ofBits
+returns-3 c =
+    let f = c .before .before in
+    let d = there (f .before) in
+    let apart : first (notFinites 5 (s d)) ≡ 0 → ⊥ = λ z. c .before .if3 .taken (unread-is f ∙ z) in
+    let number : doorNumber cumulus (t d) (x d) ≡ f .not-finite .result = number-is d ∙ first-apart (notFinites 5 (s d)) (outsides 5 (s d)) apart ∙ sym (unread-is f) in
+    c .refused3 .ensures
+    ∙ refused-answer (t d) (x d) (f .not-finite .result) positiveZero number (positive (c .before .if3 .taken))
+    (back-above (s d) (f .not-finite .result) (omega (arith, unread-is f, not-finite-number (s d) 5 apart)))
+
+outside-requires : tie.Need-outside-requires
+outside-requires c κs = search needs
+
+returns-4 : tie.Need-returns-4
+returns-4 c =
+    let o = c .before .before in
+    let d = there (steps o) in
+    let n = first (outsides 5 (stepsOf (steps o .steps-of .result))) in
+    let apart : n ≡ 0 → ⊥ = λ z. c .if4 .taken (ap (λ r. r .number) (o .outside .ensures) ∙ z) in
+    o .outside .ensures
+    ∙ refused-answer (t d) (x d) n (readingFor cumulus (stepsOf (steps o .steps-of .result)) n) (sym (outside-is o)) (positive apart)
+    (sym (back-agreed (stepsOf (steps o .steps-of .result)) (s d) (step-is (steps o)) n))
+
+wholes-in-requires : tie.Need-wholes-in-requires
+wholes-in-requires c κs = search needs
+
+array-copy-out-in-low-piece : tie.Need-array-copy-out-in-low-piece
+array-copy-out-in-low-piece c = search needs
+
+in-low-piece-requires : tie.Need-in-low-piece-requires
+in-low-piece-requires c κs = search needs
+
+answered-requires : tie.Need-answered-requires
+answered-requires c κs = all-valued (c .before) 0 (omega arith) (piece-is (c .before) true (c .if5 .taken))
+
+returns-5 : tie.Need-returns-5
+returns-5 c = answers (c .before .before) 0 (piece-is (c .before .before) true (c .before .if5 .taken)) _ (c .answered .ensures)
+
+answered-requires-2 : tie.Need-answered-requires-2
+answered-requires-2 c κs = all-valued (c .before) 1 (omega arith) (piece-is (c .before) false (c .if5 .left))
+
+returns-6 : tie.Need-returns-6
+returns-6 c = answers (c .before .before) 1 (piece-is (c .before .before) false (c .before .if5 .left)) _ (c .answered2 .ensures)
+
+pub read-floats-spec : {M : Type 1} → statement M
+read-floats-spec =
+    tie.close
+    (tie.spec
+    refused-requires
+    returns
+    soundness-requires
+    refused-requires-2
+    returns-2
+    of-requires
+    steps-of-requires
+    not-finite-requires
+    refused-requires-3
+    returns-3
+    outside-requires
+    returns-4
+    wholes-in-requires
+    array-copy-out-in-low-piece
+    in-low-piece-requires
+    answered-requires
+    returns-5
+    answered-requires-2
+    returns-6)

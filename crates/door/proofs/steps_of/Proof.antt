@@ -1,0 +1,106 @@
+-- `door::steps_of` meets its contract. The loop's invariant: the places before `i` hold the steps of the readings.
+-- Assumes nothing.
+use mathlib.Core.Path.{ap₂, _≡_, refl, _∙_}
+use Prim.Native.Nat.{_-_, _≤_}
+use native.Mathlib.Omega.{arith}
+use borrow.Author.Needs.{needs}
+use lib.ListN.{length, take, length-set}
+use mir.Val.{toZ, ofZ}
+use mir.Syntax.{w64}
+use Rattle.polynomials.specs.Sum.{listed}
+use Rattle.polynomials.proofs.Listed.{listed-more, listed-all}
+use Rattle.layout.specs.Limits.{lowest, highest}
+use Rattle.layout.specs.Shape.{cumulus, lowestPlace, highestPlace}
+use Rattle.limits.proofs.Held.{held}
+use Rattle.limits.proofs.Ranges.{limit-near, lowest-among, highest-among}
+use Rattle.rounding.specs.Reading.{stepOf}
+use Rattle.door.specs.Door.{floats, stepAt}
+use Rattle.door.proofs.steps_of.Statement.{statement}
+use Rattle.door.proofs.steps_of.Tie as tie
+
+abbrev Inv-loop : tie.InvT-loop
+Inv-loop limits readings steps₀ i₀ steps i = (i ≤ 5) × (length steps ≡ 5) × (take i steps ≡ listed i (stepAt (limits .numbers) (floats readings)))
+
+abbrev μ-loop : tie.MeasureT-loop
+μ-loop limits readings steps₀ i₀ steps i = 5 - i
+
+module _ (c : tie.After-highest Inv-loop μ-loop) where
+  lowest-is : toZ w64 (ofZ w64 (c .before .lowest .result)) ≡ lowest (c .before .before .before .before .args .limits .numbers) (c .before .before .before .loop .i)
+  lowest-is = held (c .before .lowest .result) (c .before .lowest .ok) (c .before .lowest .ensures)
+
+  highest-is : toZ w64 (ofZ w64 (c .highest .result)) ≡ highest (c .before .before .before .before .args .limits .numbers) (c .before .before .before .loop .i)
+  highest-is = held (c .highest .result) (c .highest .ok) (c .highest .ensures)
+
+loop-holds : tie.Need-loop-holds Inv-loop μ-loop
+unfolding listed
+loop-holds c = (omega arith, refl, refl)
+
+mul-x : tie.Need-mul-x Inv-loop μ-loop
+mul-x c = search needs
+
+array-read-x : tie.Need-array-read-x Inv-loop μ-loop
+array-read-x c = search needs
+
+lowest-requires : tie.Need-lowest-requires Inv-loop μ-loop
+lowest-requires c κs = search needs
+
+highest-requires : tie.Need-highest-requires Inv-loop μ-loop
+highest-requires c κs = search needs
+
+step-of-requires : tie.Need-step-of-requires Inv-loop μ-loop
+step-of-requires c κs =
+    let d = c .before .before in
+    let t = d .before .before .args .limits .numbers in
+    let i = d .before .loop .i in
+    let range = d .before .before .pre in (
+      rw (lowest-is c) (limit-near cumulus t (lowestPlace i) range (lowest-among cumulus i (d .loop-test .taken))),
+      rw (highest-is c) (limit-near cumulus t (highestPlace i) range (highest-among cumulus i (d .loop-test .taken))),
+    )
+
+mul-steps : tie.Need-mul-steps Inv-loop μ-loop
+mul-steps c = search needs
+
+array-set-from-steps : tie.Need-array-set-from-steps Inv-loop μ-loop
+array-set-from-steps c = search needs
+
+add-i : tie.Need-add-i Inv-loop μ-loop
+add-i c = search needs
+
+loop-less : tie.Need-loop-less Inv-loop μ-loop
+loop-less c = search needs
+
+loop-again : tie.Need-loop-again Inv-loop μ-loop
+loop-again c =
+    let l = c .before .before .before .before .loop in
+    let a = c .before .before .before .before .before .args in
+    let f = stepAt (a .limits .numbers) (floats (a .t2)) in (
+      omega (arith, c .before .before .before .loop-test .taken),
+      length-set (l .steps) (l .i) _ ∙ l .inv .1,
+      listed-more (l .steps) f (l .i) _ (omega (arith, l .inv .1, c .before .before .before .loop-test .taken)) (l .inv .2)
+          (c .step-of .ensures ∙ ap₂ (stepOf (floats (a .t2) (l .i))) (lowest-is (c .before)) (highest-is (c .before))),
+    )
+
+returns : tie.Need-returns Inv-loop μ-loop
+returns c =
+    let l = c .before .loop in
+    let a = c .before .before .args in
+    listed-all (l .steps) (stepAt (a .limits .numbers) (floats (a .t2))) (l .i) 5 (l .inv .1) (omega (arith, l .inv .0, c .loop-test .left)) (l .inv .2)
+
+pub steps-of-spec : {M : Type 1} → statement M
+steps-of-spec =
+    tie.close
+    (tie.spec
+    Inv-loop
+    μ-loop
+    loop-holds
+    mul-x
+    array-read-x
+    lowest-requires
+    highest-requires
+    step-of-requires
+    mul-steps
+    array-set-from-steps
+    add-i
+    loop-less
+    loop-again
+    returns)

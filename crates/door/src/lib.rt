@@ -1,0 +1,178 @@
+// Reading a table at a state of floats.
+ghost use mathlib.Core.Path.{_≡_};
+ghost use mathlib.Core.Bool.{true};
+ghost use Prim.Native.Nat.{ℕ, _<_};
+ghost use Rattle.polynomials.specs.Sum.{listed};
+ghost use Rattle.polynomials.specs.Groups.{total};
+ghost use Rattle.layout.specs.Shape.{cumulus};
+ghost use Rattle.layout.specs.Limits.{allInRange};
+ghost use Rattle.layout.specs.Blocks.{coefficient, piece as pieceOf};
+ghost use Rattle.layout.specs.Refusals.{first};
+ghost use Rattle.layout.specs.Reading.{readings as wholes};
+ghost use Rattle.rounding.specs.Answer.{answerOf};
+ghost use Rattle.blocks.specs.Ready.{Valued};
+ghost use Rattle.door.specs.Steps.{positiveZero, wholeIn, stepsOf};
+ghost use Rattle.door.specs.Door.{floats, stepAt, notFinites, outsides, readingFor, answerWith, refusedWith, doorAnswer};
+use layout::TABLE;
+use layout::VARIABLES;
+use layout::refusals::DONE;
+use layout::refusals::NOT_FINITE;
+use layout::refusals::OUTSIDE;
+use layout::refusals::WRONG_TABLE;
+use limits::Limits;
+use rounding::Step;
+use tables::soundness::soundness;
+
+// What the door gives back: its number, the reading where that is outside its limits and positive zero otherwise, and the floats of
+// X, Y, Z, l, m and n.
+pub struct Answer {
+    pub number: u64,
+    pub reading: f64,
+    pub x: f64,
+    pub y: f64,
+    pub z: f64,
+    pub l: f64,
+    pub m: f64,
+    pub n: f64,
+}
+
+// A refusal, with the reading that it hands back.
+fn refused(number: u64, reading: f64) -> Answer
+    ensures { λ r. ⌜ r ≡ refusedWith number reading ⌝ }
+{
+    Answer {
+        number: number,
+        reading: reading,
+        x: 0.0,
+        y: 0.0,
+        z: 0.0,
+        l: 0.0,
+        m: 0.0,
+        n: 0.0,
+    }
+}
+
+// The step of each reading.
+fn steps_of(limits: Limits, readings: [f64; VARIABLES]) -> [Step; VARIABLES]
+    requires { ⌜ allInRange cumulus (limits .numbers) ≡ true ⌝ }
+    ensures { λ r. ⌜ r ≡ listed (cumulus .variables) (stepAt (limits .numbers) (floats readings)) ⌝ }
+{
+    let mut steps = [Step::NotFinite; VARIABLES];
+    let mut i: usize = 0;
+    while i < VARIABLES {
+        let x = readings[i];
+        let step = rounding::step_of(x, limits.lowest(i), limits.highest(i));
+        steps[i] = step;
+        i += 1;
+    }
+    steps
+}
+
+// The refusal of the first reading that is not finite; 0 where all are finite.
+fn not_finite(steps: [Step; VARIABLES]) -> u64
+    ensures { λ r. ⌜ r ≡ first (notFinites (cumulus .variables) (stepsOf steps)) ⌝ }
+{
+    let mut i: usize = 0;
+    while i < VARIABLES {
+        let step = steps[i];
+        if let Step::NotFinite = step {
+            return NOT_FINITE + i as u64;
+        }
+        i += 1;
+    }
+    DONE
+}
+
+// The refusal of the first reading outside its limits, with the reading; number 0 where all are inside.
+fn outside(steps: [Step; VARIABLES]) -> Answer
+    ensures { λ r. ⌜ r ≡ refusedWith (first (outsides (cumulus .variables) (stepsOf steps))) (readingFor cumulus (stepsOf steps) (first (outsides (cumulus .variables) (stepsOf steps)))) ⌝ }
+{
+    let mut i: usize = 0;
+    while i < VARIABLES {
+        let step = steps[i];
+        if let Step::Outside(reading) = step {
+            return refused(OUTSIDE + i as u64, reading);
+        }
+        i += 1;
+    }
+    refused(DONE, 0.0)
+}
+
+// The whole reading of a step that has one.
+fn whole_in(step: Step) -> i64
+    ensures { λ r. ⌜ r ≡ wholeIn step ⌝ }
+{
+    match step {
+        Step::Whole(z) => z,
+        Step::NotFinite => 0,
+        Step::Outside(_) => 0,
+    }
+}
+
+// The whole readings.
+fn wholes_in(steps: [Step; VARIABLES]) -> [i64; VARIABLES]
+    ensures { λ r. ⌜ r ≡ listed (cumulus .variables) (λ i. wholeIn (stepsOf steps i)) ⌝ }
+{
+    let mut state: [i64; VARIABLES] = [0; VARIABLES];
+    let mut i: usize = 0;
+    while i < VARIABLES {
+        let whole = whole_in(steps[i]);
+        state[i] = whole;
+        i += 1;
+    }
+    state
+}
+
+// The float of one coefficient at whole readings, in the low piece (0) or the high one.
+fn float_at(table: &[i64], block: usize, piece: usize, state: [i64; VARIABLES]) -> f64
+    requires { ⌜ Valued (now table) block piece state ⌝ }
+    ensures { λ r. ⌜ r ≡ answerOf (total (coefficient cumulus (now (table .entry)) block (pieceOf piece)) (wholes state)) ⌝ }
+{
+    rounding::answer(blocks::coefficient_at(table, block, piece, state))
+}
+
+// The six floats at whole readings.
+fn answered(table: &[i64], piece: usize, state: [i64; VARIABLES]) -> Answer
+    requires { ⌜ ((b : ℕ) → b < cumulus .blocks → Valued (now table) b piece state) ⌝ }
+    ensures { λ r. ⌜ r ≡ answerWith 0 positiveZero (λ b. answerOf (total (coefficient cumulus (now (table .entry)) b (pieceOf piece)) (wholes state))) ⌝ }
+{
+    Answer {
+        number: DONE,
+        reading: 0.0,
+        x: float_at(table, 0, piece, state),
+        y: float_at(table, 1, piece, state),
+        z: float_at(table, 2, piece, state),
+        l: float_at(table, 3, piece, state),
+        m: float_at(table, 4, piece, state),
+        n: float_at(table, 5, piece, state),
+    }
+}
+
+// Reads the six coefficients of a table at a state of five floats in milliradians, each rounded to the nearest whole number
+// (half to even) before anything else looks at it; or refuses, with six zeros.
+pub fn read_floats(table: &[i64], readings: [f64; VARIABLES]) -> Answer
+    ensures { λ r. ⌜ r ≡ doorAnswer (now (table .entry)) (floats readings) ⌝ }
+{
+    if table.len() != TABLE {
+        return refused(WRONG_TABLE, 0.0);
+    }
+    let unsound = soundness(table);
+    if unsound != DONE {
+        return refused(unsound, 0.0);
+    }
+    let limits = Limits::of(table);
+    let steps = steps_of(limits, readings);
+    let unread = not_finite(steps);
+    if unread != DONE {
+        return refused(unread, 0.0);
+    }
+    let past = outside(steps);
+    if past.number != DONE {
+        return past;
+    }
+    let state = wholes_in(steps);
+    if limits.in_low_piece(state[0]) {
+        return answered(table, 0, state);
+    }
+    answered(table, 1, state)
+}

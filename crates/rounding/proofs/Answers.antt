@@ -1,0 +1,10 @@
+-- The answer of a zero is the positive zero.
+use mathlib.Core.Path.{_≡_, refl}
+use mathlib.Core.Bool.{false}
+use lib.IntN.{pos}
+use lib.Ieee.{fin, div, ofInt}
+use Rattle.rounding.specs.Answer.{answerOf}
+
+pub zero-positive : answerOf (pos 0) ≡ fin false 0 (pos 0)
+unfolding answerOf div ofInt
+zero-positive = refl

@@ -1,0 +1,17 @@
+-- The laws of rounding.
+--   Sides        a magnitude rounded, by the side of a half that it lies on
+--   Nearest      the nearest whole number is within a half and even at a half, and is the only such number
+--   Comparisons  a comparison of floats as one of exact fractions
+--   Signs        a reading by its sign
+--   Far          a reading that is too far from 0 for any limits
+--   Steps        what a step is, and what it tells
+--   Answers      the answer that is zero
+--   controls     computed facts beside the definitions
+pub mod Sides
+pub mod Nearest
+pub mod Comparisons
+pub mod Signs
+pub mod Far
+pub mod Steps
+pub mod Answers
+pub mod controls

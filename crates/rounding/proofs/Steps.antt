@@ -1,0 +1,111 @@
+-- What a step is, by where the reading lies, and what a step tells of the reading.
+--   step-not-finite, step-below, step-above, step-inside   each of the four places
+--   Stepped, stepped                                       the places behind each of the three answers
+--   told-whole, told-outside, told-not-finite              what an answer in hand says
+use mathlib.Core.Path.{_≡_, refl, sym, subst}
+use mathlib.Core.Logic.{_⊎_, inl, inr}
+use mathlib.Core.Bool.{Bool, true, false, cond, _&&_, true≢false}
+use lib.Dec.{T}
+use lib.IntN.{ℤ}
+use lib.Signed.{leZ, _≤ℤ_, _<ℤ_, leZ-yes, clashℤ}
+use lib.Ieee.{Float, nan, inf, fin}
+use lib.Ieee.Scale.{finite}
+use Rattle.whole.proofs.Order.{≤ℤ-or-<ℤ}
+use Rattle.rounding.specs.Reading.{wholeOf, stepOf}
+use Rattle.rounding.specs.declared.Step.{Step}
+use Rattle.rounding.specs.declared.Step.the-variants.{Whole, NotFinite, Outside}
+
+passes : (t : Bool) → T t → t ≡ true
+passes true h = refl
+passes false h = absurd h
+
+fails : (t : Bool) → (T t → ⊥) → t ≡ false
+fails true h = absurd (h tt)
+fails false h = refl
+
+neither : (s : Bool) → (s && false) ≡ false
+neither true = refl
+neither false = refl
+
+not-le : {a b : ℤ} → a <ℤ b → leZ b a ≡ false
+not-le {a} {b} h = fails (leZ b a) (λ t. clashℤ h (leZ-yes t))
+
+-- ════ the step at each place
+pub step-not-finite : (x : Float) (lowest highest : ℤ) → finite x ≡ false → stepOf x lowest highest ≡ NotFinite
+unfolding stepOf
+step-not-finite nan lowest highest h = refl
+step-not-finite (inf s) lowest highest h = refl
+step-not-finite (fin s m e) lowest highest h = absurd (true≢false h)
+
+abbrev placed : Bool → ℤ → Float → Step
+placed t z x = cond t (Whole z) (Outside x)
+
+step-placed : (x : Float) (lowest highest : ℤ) → T (finite x)
+    → stepOf x lowest highest ≡ placed (leZ lowest (wholeOf x) && leZ (wholeOf x) highest) (wholeOf x) x
+unfolding stepOf
+step-placed nan lowest highest f = absurd f
+step-placed (inf s) lowest highest f = absurd f
+step-placed (fin s m e) lowest highest f = refl
+
+module _ (x : Float) (lowest highest : ℤ) (f : T (finite x)) where
+  pub step-below : wholeOf x <ℤ lowest → stepOf x lowest highest ≡ Outside x
+  step-below h = rw (step-placed x lowest highest f, not-le h)
+
+  pub step-above : highest <ℤ wholeOf x → stepOf x lowest highest ≡ Outside x
+  step-above h = rw (step-placed x lowest highest f, not-le h, neither)
+
+  pub step-inside : lowest ≤ℤ wholeOf x → wholeOf x ≤ℤ highest → stepOf x lowest highest ≡ Whole (wholeOf x)
+  step-inside h g = rw (step-placed x lowest highest f, passes (leZ lowest (wholeOf x)) (h .le), passes (leZ (wholeOf x) highest) (g .le))
+
+-- ════ what the step tells
+-- the reading's place, for each answer
+pub data Stepped (x : Float) (lowest highest : ℤ) : Step → Type 0 where
+  not-finite : finite x ≡ false → Stepped x lowest highest NotFinite
+  outside : T (finite x) → (wholeOf x <ℤ lowest) ⊎ (highest <ℤ wholeOf x) → Stepped x lowest highest (Outside x)
+  whole : T (finite x) → lowest ≤ℤ wholeOf x → wholeOf x ≤ℤ highest → Stepped x lowest highest (Whole (wholeOf x))
+
+pub stepped : (x : Float) (lowest highest : ℤ) → Stepped x lowest highest (stepOf x lowest highest)
+stepped x lowest highest = go (finite x) refl
+  where
+    is : {r : Step} → stepOf x lowest highest ≡ r → Stepped x lowest highest r → Stepped x lowest highest (stepOf x lowest highest)
+    is e = subst (Stepped x lowest highest) (sym e)
+
+    go : (t : Bool) → finite x ≡ t → Stepped x lowest highest (stepOf x lowest highest)
+    go false n = is (step-not-finite x lowest highest n) (not-finite n)
+    go true h =
+        let f : T (finite x) = subst T (sym h) tt in
+        elim (≤ℤ-or-<ℤ (wholeOf x) lowest) [
+          | inr l ↦ is (step-below x lowest highest f l) (outside f (inl l))
+          | inl l ↦
+              elim (≤ℤ-or-<ℤ highest (wholeOf x)) [
+                | inr g ↦ is (step-above x lowest highest f g) (outside f (inr g))
+                | inl g ↦ is (step-inside x lowest highest f l g) (whole f l g)
+              ]
+        ]
+
+pub record Inside (x : Float) (lowest highest z : ℤ) : Type 0 where
+  pub is : z ≡ wholeOf x
+  pub low : lowest ≤ℤ z
+  pub high : z ≤ℤ highest
+
+module _ (x : Float) (lowest highest : ℤ) where
+  told : {r : Step} → stepOf x lowest highest ≡ r → Stepped x lowest highest r
+  told e = subst (Stepped x lowest highest) e (stepped x lowest highest)
+
+  inside : (z : ℤ) → Stepped x lowest highest (Whole z) → Inside x lowest highest z
+  inside z (whole f l g) = record { is = refl; low = l; high = g }
+
+  given : (y : Float) → Stepped x lowest highest (Outside y) → y ≡ x
+  given y (outside f p) = refl
+
+  valueless : Stepped x lowest highest NotFinite → finite x ≡ false
+  valueless (not-finite n) = n
+
+  pub told-whole : (z : ℤ) → stepOf x lowest highest ≡ Whole z → Inside x lowest highest z
+  told-whole z e = inside z (told e)
+
+  pub told-outside : (y : Float) → stepOf x lowest highest ≡ Outside y → y ≡ x
+  told-outside y e = given y (told e)
+
+  pub told-not-finite : stepOf x lowest highest ≡ NotFinite → finite x ≡ false
+  told-not-finite e = valueless (told e)

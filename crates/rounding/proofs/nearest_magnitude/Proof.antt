@@ -1,0 +1,117 @@
+-- `rounding::nearest_magnitude` meets its contract: the truncated float is the whole part, and the two comparisons with the half above it are those of `rounded`.
+-- Assumes nothing.
+use mathlib.Core.Path.{_≡_, sym, ap, ap₂, subst, _∙_}
+use mathlib.Core.Bool.{true, false}
+use Prim.Native.Nat.{ℕ, _+_, _*_, _/_, _^_, _≤_, _<_}
+use native.Mathlib.Nat.{mul-comm}
+use native.Mathlib.Omega.{arith}
+use lib.Dec.{T, ltb, lt→ltb, lit<}
+use lib.IntN.{pos}
+use lib.Ieee.{Float, nan, inf, fin, up, down, lt, toUnsigned}
+use lib.Ieee.Fits.{down-pos}
+use lib.Ieee.Exact.{HasValue}
+use lib.Ieee.Positive.{num, den, den-pos, positive, positive-of-value}
+use Rattle.rounding.specs.Nearest.{tie as tie-of, rounded}
+use Rattle.rounding.proofs.Sides.{half, rounded-below, rounded-above, rounded-at, whole-part-within}
+use Rattle.rounding.proofs.Comparisons.{lt-value, gt-value}
+use Rattle.rounding.proofs.nearest_magnitude.Statement.{statement}
+use Rattle.rounding.proofs.nearest_magnitude.Tie as tie
+
+-- ---- the whole part
+truncatable : (a : Float) → T (positive a) → num a ≤ 2001 * den a → T (lt (fin true 1 (pos 0)) a) × T (lt a (fin false 1 (pos 64)))
+unfolding lt
+truncatable nan p l = absurd p
+truncatable (inf s) p l = absurd p
+truncatable (fin true m e) p l = absurd p
+truncatable (fin false m e) p l =
+    let d = down-pos e in
+    let above : 0 < 1 * down e + m * up e * 1 = omega arith in
+    let below : m * up e * 1 < 1 * 2 ^ 64 * down e = omega arith in
+    (lt→ltb _ _ above, lt→ltb _ _ below)
+
+truncated : (a : Float) → T (positive a) → num a ≤ 2001 * den a → toUnsigned 64 a ≡ num a / den a
+unfolding toUnsigned
+truncated nan p l = absurd p
+truncated (inf s) p l = absurd p
+truncated (fin true m e) p l = absurd p
+truncated (fin false m e) p l = omega (arith, whole-part-within (m * up e) (down e) 2001 (down-pos e) l)
+
+-- ---- by the half above it: y has the value (2q + 1) / 2
+module _ (a y : Float) (q : ℕ) (p : T (positive a)) (e : q ≡ num a / den a) (v : HasValue y false (2 * q + 1) 2) where
+  positive-half : T (positive y)
+  positive-half = positive-of-value y (2 * q + 1) 2 v (omega arith)
+
+  below-test : ltb (2 * num a) (half (num a) (den a)) ≡ lt a y
+  below-test =
+      sym (lt-value a y (2 * q + 1) 2 p positive-half (lit< tt) v ∙ ap₂ (λ m n. ltb m ((2 * n + 1) * den a)) (mul-comm (num a) 2) e)
+
+  above-test : ltb (half (num a) (den a)) (2 * num a) ≡ lt y a
+  above-test =
+      sym (gt-value a y (2 * q + 1) 2 p positive-half (lit< tt) v ∙ ap₂ (λ m n. ltb ((2 * n + 1) * den a) m) (mul-comm (num a) 2) e)
+
+  rounds-down : lt a y ≡ true → q ≡ rounded (num a) (den a)
+  rounds-down h = e ∙ sym (rounded-below (num a) (den a) (below-test ∙ h))
+
+  rounds-up : lt a y ≡ false → lt y a ≡ true → q + 1 ≡ rounded (num a) (den a)
+  rounds-up h g = ap (λ (n : ℕ). n + 1) e ∙ sym (rounded-above (num a) (den a) (below-test ∙ h) (above-test ∙ g))
+
+  settled : lt a y ≡ false → lt y a ≡ false → tie-of q ≡ rounded (num a) (den a)
+  settled h g = ap tie-of e ∙ sym (rounded-at (num a) (den a) (below-test ∙ h) (above-test ∙ g))
+
+-- ---- at the code's places
+module _ (c : tie.After-truncating-f64-to-u64) where
+  abbrev a : Float
+  a = c .before .args .a
+
+  abbrev q : ℕ
+  q = c .truncating-f64-to-u64 .result
+
+  q-is : q ≡ num a / den a
+  q-is = c .truncating-f64-to-u64 .ensures ∙ truncated a (c .before .pre .0) (c .before .pre .1)
+
+  q-small : q ≤ 2001
+  q-small = subst (λ (n : ℕ). n ≤ 2001) (sym q-is) (whole-part-within (num a) (den a) 2001 (den-pos a) (c .before .pre .1))
+
+truncating-f64-to-u64-requires : tie.Need-truncating-f64-to-u64-requires
+truncating-f64-to-u64-requires c κs = truncatable (c .args .a) (c .pre .0) (c .pre .1)
+
+half-above-requires : tie.Need-half-above-requires
+half-above-requires c κs = q-small c
+
+add-result : tie.Need-add-result
+add-result c = omega (arith, q-small (c .before .before .before))
+
+tie-requires : tie.Need-tie-requires
+tie-requires c κs = q-small (c .before .before .before)
+
+returns : tie.Need-returns
+returns c =
+    let h = c .before in
+    let s = h .before in
+    rounds-down (a s) (h .half-above .result) (q s) (s .before .pre .0) (q-is s) (h .half-above .ensures) (c .if1 .taken)
+
+returns-2 : tie.Need-returns-2
+returns-2 c =
+    let h = c .before .before in
+    let s = h .before in
+    rounds-up (a s) (h .half-above .result) (q s) (s .before .pre .0) (q-is s) (h .half-above .ensures) (c .before .if1 .left) (c .if2 .taken)
+
+returns-3 : tie.Need-returns-3
+returns-3 c =
+    let e = c .before in
+    let h = e .before .before in
+    let s = h .before in
+    c .tie .ensures
+    ∙ settled (a s) (h .half-above .result) (q s) (s .before .pre .0) (q-is s) (h .half-above .ensures) (e .before .if1 .left) (e .if2 .left)
+
+pub nearest-magnitude-spec : {M : Type 1} → statement M
+nearest-magnitude-spec =
+    tie.close
+    (tie.spec
+    truncating-f64-to-u64-requires
+    half-above-requires
+    add-result
+    tie-requires
+    returns
+    returns-2
+    returns-3)

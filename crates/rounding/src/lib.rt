@@ -1,0 +1,103 @@
+// What a float reading is as a whole number, and what a whole answer is as a float.
+ghost use mathlib.Core.Path.{_≡_};
+ghost use mathlib.Core.Bool.{true, false};
+ghost use Prim.Native.Nat.{_≤_, _+_, _*_};
+ghost use lib.Dec.{T};
+ghost use lib.IntN.{natAbs};
+ghost use lib.Ieee.Exact.{HasValue};
+ghost use lib.Ieee.Positive.{num, den, positive};
+ghost use lib.Ieee.Scale.{finite};
+ghost use Rattle.rounding.specs.Nearest.{tie, rounded};
+ghost use Rattle.rounding.specs.Reading.{wholeOf, stepOf};
+ghost use Rattle.rounding.specs.Ready.{Near};
+ghost use Rattle.rounding.specs.Answer.{answerOf};
+
+// What one float reading is, within a lowest and a highest whole number.
+pub enum Step {
+    Whole(i64),
+    NotFinite,
+    Outside(f64),
+}
+
+// q, or the next, where a magnitude lies just half-way between them: the even one.
+fn tie(q: u64) -> u64
+    requires { ⌜ q ≤ 2001 ⌝ }
+    ensures { λ r. ⌜ r ≡ tie q ⌝ }
+{
+    q + q % 2
+}
+
+// q and a half, which an f64 holds exactly.
+fn half_above(q: u64) -> f64
+    requires { ⌜ q ≤ 2001 ⌝ }
+    ensures { λ r. ⌜ HasValue r false (2 * q + 1) 2 ⌝ }
+{
+    ((2 * q + 1) as f64) * 0.5
+}
+
+// The whole number nearest to a, by the side of the half above its whole part.
+fn nearest_magnitude(a: f64) -> u64
+    requires { ⌜ T (positive a) ⌝ ∗ ⌜ num a ≤ 2001 * den a ⌝ }
+    ensures { λ r. ⌜ r ≡ rounded (num a) (den a) ⌝ }
+{
+    let q = std::num::truncating_f64_to_u64(a);
+    let half = half_above(q);
+    if a < half {
+        q
+    } else if half < a {
+        q + 1
+    } else {
+        tie(q)
+    }
+}
+
+// The whole number nearest to x, which for both zeros is 0.
+fn nearest_whole(x: f64) -> i64
+    requires { ⌜ Near x ⌝ }
+    ensures { λ r. ⌜ r ≡ wholeOf x ⌝ }
+{
+    if x < 0.0 {
+        -(nearest_magnitude(-x) as i64)
+    } else if 0.0 < x {
+        nearest_magnitude(x) as i64
+    } else {
+        0
+    }
+}
+
+// Whether x lies between the infinities, as a NaN does not.
+fn is_finite(x: f64) -> bool
+    ensures { λ r. ⌜ r ≡ finite x ⌝ }
+{
+    -1.0 / 0.0 < x && x < 1.0 / 0.0
+}
+
+// The nearest whole number to x where it lies within the limits; a magnitude above 2001 lies outside of any.
+pub fn step_of(x: f64, lowest: i64, highest: i64) -> Step
+    requires { ⌜ natAbs lowest ≤ 2000 ⌝ ∗ ⌜ natAbs highest ≤ 2000 ⌝ }
+    ensures { λ r. ⌜ r ≡ stepOf x lowest highest ⌝ }
+{
+    if !is_finite(x) {
+        Step::NotFinite
+    } else if x < -2001.0 {
+        Step::Outside(x)
+    } else if 2001.0 < x {
+        Step::Outside(x)
+    } else {
+        let z = nearest_whole(x);
+        if z < lowest {
+            Step::Outside(x)
+        } else if highest < z {
+            Step::Outside(x)
+        } else {
+            Step::Whole(z)
+        }
+    }
+}
+
+// A whole number of 10^-17 as the nearest f64 whole number (half to even), divided once by 10^17. Zero gives positive zero.
+pub fn answer(z: i64) -> f64
+    ensures { λ r. ⌜ r ≡ answerOf z ⌝ }
+{
+    std::num::nearest_i64_to_f64(z) / 1e17
+}
