@@ -4,12 +4,12 @@
 --   Numbers   which number is given back, from the tests one after another, and the answer with it
 --   Wholes    the readings where no step refuses
 --   Told      the steps, told by the floats themselves
---   Promises  what the contract says, in the words of the paper
+--   Answers   what the contract says, in the words of the paper
 --   Controls  computed facts beside the definitions
 pub mod Cases
 pub mod Firsts
 pub mod Numbers
 pub mod Wholes
 pub mod Told
-pub mod Promises
+pub mod Answers
 pub mod Controls

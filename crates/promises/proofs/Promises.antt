@@ -2,19 +2,23 @@
 -- or `publishNumber`, and what its lent space holds afterwards `readOutput`, `moveOutput` or `publishOutput`.
 -- That every call ends and meets this is proved of the code; `Tight` says that it leaves no choice. Assumes nothing.
 use mathlib.Core.Path.{_≡_, refl, sym, _∙_, ap}
-use mathlib.Core.Bool.{true, false}
-use mathlib.Core.List.{List, map}
+use mathlib.Core.Bool.{true, false, not}
+use mathlib.Core.List.{List, _∷_, _++_, map}
 use Prim.Native.Nat.{ℕ, _-_, _≤_, _<_}
 use native.Mathlib.Omega.{arith}
+use lib.Dec.{eqb}
 use lib.IntN.{ℤ, pos, negsuc, negℤ, natAbs, _+ℤ_}
 use lib.ListN.{length, getD}
+use lib.Ieee.{Float}
+use lib.Ieee.Scale.{finite}
+use Rattle.polynomials.specs.Sum.{listed}
 use Rattle.polynomials.specs.Groups.{totalWeight, less}
 use Rattle.polynomials.specs.Limits.{cap}
 use Rattle.layout.specs.Shape.{Shape, tableLength, limitsLength, cumulus}
 use Rattle.layout.specs.Limits.{allInRange, good}
 use Rattle.layout.specs.Blocks.{Piece, coefficient}
 use Rattle.layout.specs.Sound.{light, sound}
-use Rattle.layout.specs.Refusals.{done}
+use Rattle.layout.specs.Refusals.{_when_, first, done, wrongTable, badLimits, tooHeavy, outside}
 use Rattle.layout.specs.Reading.{inside, values, readNumber, readOutput}
 use Rattle.layout.specs.Moving.{movedLimits, movedTable, moveReach, moveLight, moveNumber, moveOutput}
 use Rattle.layout.proofs.Tests.{&&-left, &&-right, &&-both}
@@ -37,6 +41,14 @@ use Rattle.cumulus.proofs.Model.{read-model}
 use Rattle.cumulus.proofs.Moves.{move-accepted}
 use Rattle.cumulus.proofs.Scaling.{scaling}
 use Rattle.cumulus.proofs.Checked.{all-checked}
+use Rattle.rounding.specs.Value.{numerator, denominator}
+use Rattle.rounding.specs.Nearest.{IsNearest}
+use Rattle.rounding.specs.Answer.{answerOf}
+use Rattle.rounding.proofs.Nearest.{reading-unique}
+use Rattle.rounding.proofs.Answers.{zero-positive}
+use Rattle.door.specs.Steps.{notFinite, positiveZero}
+use Rattle.door.specs.Door.{roundedAll, doorNumber, doorReading, doorValue}
+use Rattle.door.proofs.Answers.{number-told, rounded-nearest, number-read, value-read, zero-on-refusal, reading-outside, reading-elsewhere}
 
 -- ════ 1. A refusal writes nothing into the lent space.
 pub refused-publish-writes-nothing : (out : List ℤ) → (length out ≡ 311 → ⊥) → publishOutput out ≡ out
@@ -170,3 +182,46 @@ smallest-too-heavy = smallest-heavy
 -- The checked values that are marked, 1 to 10, over one list.
 pub checked-values : map (λ c. asked (c .question)) checked ≡ map (λ c. c .answer) checked
 checked-values = all-checked
+
+-- ════ The floating-point door
+module _ (t : List ℤ) (x : ℕ → Float) where
+  -- Each reading is rounded to the nearest whole number, within a half of its exact value, and to the even neighbour at a half.
+  pub door-rounds-to-nearest : (i : ℕ) → IsNearest (numerator (x i)) (denominator (x i)) (roundedAll x i)
+  door-rounds-to-nearest = rounded-nearest t x
+
+  -- Only one whole number is nearest so.
+  pub door-rounding-unique : (i : ℕ) (z : ℤ) → IsNearest (numerator (x i)) (denominator (x i)) z → z ≡ roundedAll x i
+  door-rounding-unique i z = reading-unique (x i) z
+
+  -- The refusals, in their order: the table's length, limits and weights, over all five a float that is not finite, a rounded reading outside.
+  pub door-refusals : doorNumber cumulus t x
+      ≡ first
+      ((wrongTable when not (eqb (length t) (tableLength cumulus)))
+      ∷ (badLimits when not (good cumulus t))
+      ∷ (tooHeavy when not (light cumulus t))
+      ∷ (listed 5 (λ i. notFinite i when not (finite (x i))) ++ listed 5 (λ i. outside i when not (inside t (roundedAll x) i))))
+  door-refusals = number-told t x
+
+  -- Five finite readings are answered as the whole-number read of the rounded readings is: the number,
+  pub door-number-of-rounded : ((i : ℕ) → i < 5 → finite (x i) ≡ true) → doorNumber cumulus t x ≡ readNumber cumulus t (roundedAll x) (listed 6 (λ b. pos 0))
+  door-number-of-rounded = number-read t x
+
+  -- and each of the six, made a float and divided once.
+  pub door-values-of-rounded : ((i : ℕ) → i < 5 → finite (x i) ≡ true) → (b : ℕ) → b < 6
+      → doorValue cumulus t x b ≡ answerOf (getD (readOutput cumulus t (roundedAll x) (listed 6 (λ b. pos 0))) b (pos 0))
+  door-values-of-rounded = value-read t x
+
+  -- The six are positive zero on a refusal.
+  pub door-zero-on-refusal : (doorNumber cumulus t x ≡ 0 → ⊥) → (b : ℕ) → doorValue cumulus t x b ≡ positiveZero
+  door-zero-on-refusal = zero-on-refusal t x
+
+  -- A reading outside is handed back as given; with every other number, 0 included, that place is positive zero.
+  pub door-hands-back-outside : (i : ℕ) → i < 5 → doorNumber cumulus t x ≡ outside i → doorReading cumulus t x ≡ x i
+  door-hands-back-outside = reading-outside t x
+
+  pub door-hands-back-nothing-else : ((i : ℕ) → i < 5 → doorNumber cumulus t x ≡ outside i → ⊥) → doorReading cumulus t x ≡ positiveZero
+  door-hands-back-nothing-else = reading-elsewhere t x
+
+-- A zero gives positive zero.
+pub door-zero-is-positive : answerOf (pos 0) ≡ positiveZero
+door-zero-is-positive = zero-positive
