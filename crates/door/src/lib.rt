@@ -25,6 +25,7 @@ use tables::soundness::soundness;
 
 // What the door gives back: its number, the reading where that is outside its limits and positive zero otherwise, and the floats of
 // X, Y, Z, l, m and n.
+#[repr(C)]
 pub struct Answer {
     pub number: u64,
     pub reading: f64,

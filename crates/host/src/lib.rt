@@ -1,0 +1,62 @@
+// The operations for hosts in C, which hold tables as numbers. A slice is a pointer and a count of numbers.
+ghost use mathlib.Core.Path.{_≡_};
+ghost use mathlib.Core.List.{[], _∷_};
+ghost use Rattle.layout.specs.Shape.{cumulus};
+ghost use Rattle.layout.specs.Reading.{readings, readNumber, readOutput};
+ghost use Rattle.layout.specs.Moving.{moveNumber, moveOutput};
+ghost use Rattle.cumulus.specs.Published.{publishNumber, publishOutput};
+ghost use Rattle.door.specs.Door.{floats, doorAnswer};
+use door::Answer;
+
+#[no_mangle]
+pub extern "C" fn clochecloak_publish(out: &mut [i64]) -> u64
+    ensures number { λ r. ⌜ r ≡ publishNumber (now (out .entry)) ⌝ }
+    ensures output { λ r. ⌜ now (out .exit) ≡ publishOutput (now (out .entry)) ⌝ }
+{
+    cumulus::publish(out)
+}
+
+#[no_mangle]
+pub extern "C" fn clochecloak_read(
+    table: &[i64],
+    alpha: i64,
+    beta: i64,
+    xi: i64,
+    eta: i64,
+    zeta: i64,
+    out: &mut [i64],
+) -> u64
+    ensures number { λ r. ⌜ r ≡ readNumber cumulus (now (table .entry)) (readings (alpha ∷ beta ∷ xi ∷ eta ∷ zeta ∷ [])) (now (out .entry)) ⌝ }
+    ensures output { λ r. ⌜ now (out .exit) ≡ readOutput cumulus (now (table .entry)) (readings (alpha ∷ beta ∷ xi ∷ eta ∷ zeta ∷ [])) (now (out .entry)) ⌝ }
+{
+    let state = [alpha, beta, xi, eta, zeta];
+    tables::reading::read(table, state, out)
+}
+
+#[no_mangle]
+pub extern "C" fn clochecloak_move(
+    table: &[i64],
+    variable: usize,
+    shift: i64,
+    out: &mut [i64],
+) -> u64
+    ensures number { λ r. ⌜ r ≡ moveNumber cumulus (now (table .entry)) variable shift (now (out .entry)) ⌝ }
+    ensures output { λ r. ⌜ now (out .exit) ≡ moveOutput cumulus (now (table .entry)) variable shift (now (out .entry)) ⌝ }
+{
+    tables::moving::move_datum(table, variable, shift, out)
+}
+
+#[no_mangle]
+pub extern "C" fn clochecloak_read_floats(
+    table: &[i64],
+    alpha: f64,
+    beta: f64,
+    xi: f64,
+    eta: f64,
+    zeta: f64,
+) -> Answer
+    ensures { λ r. ⌜ r ≡ doorAnswer (now (table .entry)) (floats (alpha ∷ beta ∷ xi ∷ eta ∷ zeta ∷ [])) ⌝ }
+{
+    let readings = [alpha, beta, xi, eta, zeta];
+    door::read_floats(table, readings)
+}

@@ -1,0 +1,63 @@
+/* Clochecloak for C. Link libhost.a, which `rt staticlib host` writes.
+ *
+ * A table is CLOCHECLOAK_TABLE numbers. Readings and shifts are whole milliradians; variables are 0 alpha, 1 beta, 2 xi
+ * (aileron), 3 eta (elevator) and 4 zeta (rudder); coefficients are whole units of 10^-17, in the order X, Y, Z, l, m, n.
+ *
+ * Every function takes any arguments and gives back 0, or the number of a refusal. After a refusal the output holds what it
+ * held before. The counts are counts of numbers, not of bytes. A table and an output may not overlap.
+ */
+#ifndef CLOCHECLOAK_H
+#define CLOCHECLOAK_H
+
+#include <stddef.h>
+#include <stdint.h>
+
+#ifdef __cplusplus
+extern "C" {
+#endif
+
+enum { CLOCHECLOAK_TABLE = 311, CLOCHECLOAK_COEFFICIENTS = 6 };
+
+enum {
+    CLOCHECLOAK_DONE = 0,
+    CLOCHECLOAK_WRONG_TABLE = 1,    /* the table does not have 311 numbers */
+    CLOCHECLOAK_WRONG_OUTPUT = 2,   /* the output does not have 6 numbers (read) or 311 (publish, move) */
+    CLOCHECLOAK_BAD_LIMITS = 3,     /* the table's limits are not good */
+    CLOCHECLOAK_TOO_HEAVY = 4,      /* a weight passes the cap */
+    CLOCHECLOAK_NO_VARIABLE = 5,    /* the variable is above 4 */
+    CLOCHECLOAK_LIMIT_PAST = 6,     /* a moved limit would leave -2000..2000 */
+    CLOCHECLOAK_MOVE_TOO_HEAVY = 7, /* the move passes the cap */
+    CLOCHECLOAK_OUTSIDE = 11,       /* and the variable's number: its reading is outside its limits */
+    CLOCHECLOAK_NOT_FINITE = 21     /* and the variable's number: its float is a NaN or an infinity */
+};
+
+/* What a read with floats gives: the number; with 11 to 15 the reading that is outside, as given, and else 0.0; and the six
+ * coefficients, all 0.0 after a refusal. */
+typedef struct {
+    uint64_t number;
+    double reading;
+    double x, y, z, l, m, n;
+} clochecloak_answer;
+
+/* Writes the published Cumulus One table. Refusal 2. */
+uint64_t clochecloak_publish(int64_t *out, size_t out_count);
+
+/* Writes the six coefficients at a state. Refusals 1, 2, 3, 4, 11 to 15, in this order. */
+uint64_t clochecloak_read(const int64_t *table, size_t table_count, int64_t alpha, int64_t beta, int64_t xi, int64_t eta,
+                          int64_t zeta, int64_t *out, size_t out_count);
+
+/* The six coefficients at a state of floats in milliradians, each first rounded to the nearest whole number (half to even).
+ * Refusals 1, 3, 4, 21 to 25, 11 to 15, in this order. */
+clochecloak_answer clochecloak_read_floats(const int64_t *table, size_t table_count, double alpha, double beta, double xi,
+                                           double eta, double zeta);
+
+/* Writes the table that answers at a reading less `shift` as this one does at the reading.
+ * Refusals 1, 2, 5, 3, 4, 6, 7, in this order. */
+uint64_t clochecloak_move(const int64_t *table, size_t table_count, size_t variable, int64_t shift, int64_t *out,
+                          size_t out_count);
+
+#ifdef __cplusplus
+}
+#endif
+
+#endif
