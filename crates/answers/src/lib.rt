@@ -1,0 +1,165 @@
+// Answering lines of readings: for each line the number given back and the six coefficients of a table, in decimal.
+ghost use mathlib.Core.Path.{_≡_};
+ghost use Prim.Native.Nat.{_+_, _≤_};
+ghost use lib.ListN.{length};
+ghost use Rattle.printing.specs.Spell.{written};
+ghost use Rattle.answers.specs.Answers.{spaced, numbered, answerOf};
+ghost use Rattle.answers.specs.Reading.{fresh, readingAfter, answerAt, lastAnswer, Feeding};
+use lines::Line;
+use lines::State;
+use printing::put_digits;
+use printing::put_number;
+use tables::reading::read;
+
+// The longest answer: seven numbers of 20 bytes, a space before all but the first, and the newline.
+pub const LONGEST: usize = 147;
+
+// The number given back for a line that is no five numbers.
+const MALFORMED: u64 = 31;
+
+// What is known of the input from its bytes so far: the line that has not ended, and whether it has a byte.
+pub struct Reading {
+    pub line: State,
+    pub begun: bool,
+}
+
+// The reading after a byte, and the place behind what was written.
+pub struct Turn {
+    pub reading: Reading,
+    pub put: usize,
+}
+
+// The reading after the first `taken` bytes of a piece, and how many bytes of the output hold their answers.
+pub struct Fed {
+    pub reading: Reading,
+    pub taken: usize,
+    pub put: usize,
+}
+
+// Six coefficients, each behind a space, from the place `at` on; gives the place behind them.
+fn put_values(values: [i64; 6], out: &mut [u8], at: usize) -> usize
+    requires { ⌜ at + 126 ≤ length (now out) ⌝ }
+    ensures place { λ r. ⌜ r ≡ at + length (spaced values) ⌝ }
+    ensures output { λ r. ⌜ now (out .exit) ≡ written (now (out .entry)) at (spaced values) ⌝ }
+    ensures room { λ r. ⌜ r ≤ at + 126 ⌝ }
+{
+    let mut place = at;
+    let mut k: usize = 0;
+    while k < 6 {
+        out[place] = b' ';
+        place = put_number(values[k], out, place + 1);
+        k += 1;
+    }
+    place
+}
+
+// A whole answer with its newline.
+fn put_answer(number: u64, values: [i64; 6], out: &mut [u8], at: usize) -> usize
+    requires { ⌜ at + 147 ≤ length (now out) ⌝ }
+    ensures place { λ r. ⌜ r ≡ at + length (numbered number values) ⌝ }
+    ensures output { λ r. ⌜ now (out .exit) ≡ written (now (out .entry)) at (numbered number values) ⌝ }
+    ensures room { λ r. ⌜ r ≤ at + 147 ⌝ }
+{
+    let behind = put_digits(number, out, at);
+    let end = put_values(values, out, behind);
+    out[end] = b'\n';
+    end + 1
+}
+
+// The answer of a table to a line, from the place `at` on; gives the place behind it.
+pub fn put_line(table: &[i64], line: Line, out: &mut [u8], at: usize) -> usize
+    requires { ⌜ at + 147 ≤ length (now out) ⌝ }
+    ensures place { λ r. ⌜ r ≡ at + length (answerOf (now (table .entry)) line) ⌝ }
+    ensures output { λ r. ⌜ now (out .exit) ≡ written (now (out .entry)) at (answerOf (now (table .entry)) line) ⌝ }
+    ensures room { λ r. ⌜ r ≤ at + 147 ⌝ }
+{
+    let mut values = [0i64; 6];
+    match line {
+        Line::Malformed => put_answer(MALFORMED, values, out, at),
+        Line::Readings {
+            alpha,
+            beta,
+            xi,
+            eta,
+            zeta,
+        } => {
+            let number = read(table, [alpha, beta, xi, eta, zeta], &mut values);
+            put_answer(number, values, out, at)
+        }
+    }
+}
+
+impl Reading {
+    // Nothing is read.
+    pub fn fresh() -> Reading
+        ensures { λ r. ⌜ r ≡ fresh ⌝ }
+    {
+        Reading {
+            line: State::start(),
+            begun: false,
+        }
+    }
+}
+
+// One byte more: a newline ends the line, which is answered from the place `at` on.
+fn take_byte(table: &[i64], reading: Reading, byte: u8, out: &mut [u8], at: usize) -> Turn
+    requires { ⌜ at + 147 ≤ length (now out) ⌝ }
+    ensures reading { λ r. ⌜ r .reading ≡ readingAfter reading byte ⌝ }
+    ensures place { λ r. ⌜ r .put ≡ at + length (answerAt (now (table .entry)) reading byte) ⌝ }
+    ensures output { λ r. ⌜ now (out .exit) ≡ written (now (out .entry)) at (answerAt (now (table .entry)) reading byte) ⌝ }
+    ensures room { λ r. ⌜ r .put ≤ at + 147 ⌝ }
+{
+    let line = reading.line;
+    if byte == b'\n' {
+        let put = put_line(table, line.finish(), out, at);
+        let next = Reading::fresh();
+        return Turn { reading: next, put };
+    }
+    let line = line.step(byte);
+    let next = Reading { line, begun: true };
+    Turn {
+        reading: next,
+        put: at,
+    }
+}
+
+// Takes a piece of the input, of any size, as far as the output has room for an answer more, and writes the answers to the lines that end in it.
+pub fn feed(table: &[i64], reading: Reading, input: &[u8], out: &mut [u8]) -> Fed
+    ensures { λ r. ⌜ Feeding (now (table .entry)) reading (now (input .entry)) (now (out .entry)) (now (out .exit)) r ⌝ }
+{
+    let mut current = reading;
+    let mut taken: usize = 0;
+    let mut put: usize = 0;
+    while taken < input.len() {
+        if out.len() - put < LONGEST {
+            return Fed {
+                reading: current,
+                taken,
+                put,
+            };
+        }
+        let turn = take_byte(table, current, input[taken], out, put);
+        current = turn.reading;
+        put = turn.put;
+        taken += 1;
+    }
+    Fed {
+        reading: current,
+        taken,
+        put,
+    }
+}
+
+// At the end of the input: the answer to a last line that no newline ends, from the place `at` on; gives the place behind it.
+pub fn finish(table: &[i64], reading: Reading, out: &mut [u8], at: usize) -> usize
+    requires { ⌜ at + 147 ≤ length (now out) ⌝ }
+    ensures place { λ r. ⌜ r ≡ at + length (lastAnswer (now (table .entry)) reading) ⌝ }
+    ensures output { λ r. ⌜ now (out .exit) ≡ written (now (out .entry)) at (lastAnswer (now (table .entry)) reading) ⌝ }
+    ensures room { λ r. ⌜ r ≤ at + 147 ⌝ }
+{
+    let line = reading.line;
+    if reading.begun {
+        return put_line(table, line.finish(), out, at);
+    }
+    at
+}

@@ -1,0 +1,4 @@
+pub mod Controls
+pub mod Parsed
+pub mod Steps
+pub mod Words

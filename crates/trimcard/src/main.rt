@@ -1,0 +1,55 @@
+// Answers each line of five readings on standard input with the number given back and the six coefficients of the published table.
+use answers::Reading;
+use layout::TABLE;
+use libc::STDIN_FILENO;
+use libc::STDOUT_FILENO;
+ghost use mathlib.Core.Path.{_≡_};
+ghost use Prim.Native.Nat.{_≤_};
+ghost use lib.ListN.{length};
+ghost use Rattle.answers.specs.Reading.{readingsAfter};
+
+// Answers a piece of the input, with a write each time the output is full.
+fn answer_piece(table: &[i64], reading: Reading, piece: &[u8], out: &mut [u8]) -> Reading
+    requires { ⌜ 147 ≤ length (now out) ⌝ }
+    ensures { λ r. ⌜ r ≡ readingsAfter reading (now (piece .entry)) ⌝ }
+{
+    let mut current = reading;
+    let mut at: usize = 0;
+    while at < piece.len() {
+        let fed = answers::feed(table, current, &piece[at..], out);
+        let from = 0;
+        let put = fed.put;
+        io::write_all(STDOUT_FILENO, &out[from..put]);
+        current = fed.reading;
+        at += fed.taken;
+    }
+    current
+}
+
+// Up to the end of the input. A proved loop has to end, so it counts its turns down from a number that no run uses up.
+fn run(table: &[i64], buf: &mut [u8], out: &mut [u8])
+    requires { ⌜ 147 ≤ length (now out) ⌝ }
+{
+    let mut reading = Reading::fresh();
+    let mut turns = u64::MAX;
+    while turns > 0 {
+        turns -= 1;
+        let from = 0;
+        let got = libc::read(STDIN_FILENO, buf);
+        let n = io::count(got, buf);
+        if n == 0 {
+            let put = answers::finish(table, reading, out, 0);
+            io::write_all(STDOUT_FILENO, &out[from..put]);
+            return;
+        }
+        reading = answer_piece(table, reading, &buf[from..n], out);
+    }
+}
+
+fn main() {
+    let mut table = [0i64; TABLE];
+    cumulus::publish(&mut table);
+    let mut buf = io::large_buffer();
+    let mut out = io::large_buffer();
+    run(&table, &mut buf, &mut out);
+}

@@ -1,0 +1,104 @@
+"""The floating-point door, worked on 64-bit patterns of binary64 numbers.
+
+A pattern is turned into an exact fraction and a result is rounded back by
+whole-number arithmetic, so no machine float takes part in any answer.
+"""
+
+from fractions import Fraction
+
+from tables import (
+    DONE, FIRST_READING_OUTSIDE, TABLE_LENGTH, VARIABLE_COUNT,
+    WRONG_TABLE_LENGTH, all_coefficients, first_reading_outside, soundness,
+)
+
+FIRST_NOT_FINITE = 21               # alpha; the other variables follow
+ANSWER_UNIT = 10**17
+POSITIVE_ZERO = 0
+SIGN_BIT = 1 << 63
+INFINITY_BITS = 0x7FF << 52
+FRACTION_MASK = (1 << 52) - 1
+
+
+def is_finite(bits):
+    return (bits >> 52) & 0x7FF != 0x7FF
+
+
+def exact_value(bits):
+    """The fraction that a finite pattern stands for; both zeros give 0."""
+    exponent = (bits >> 52) & 0x7FF
+    significand = bits & FRACTION_MASK
+    if exponent == 0:
+        exponent = 1                # subnormals share the smallest exponent
+    else:
+        significand |= 1 << 52
+    power = exponent - 1075
+    if power >= 0:
+        magnitude = Fraction(significand << power)
+    else:
+        magnitude = Fraction(significand, 1 << -power)
+    return -magnitude if bits & SIGN_BIT else magnitude
+
+
+def round_half_even(value):
+    """Nearest whole number of a fraction, a half going to the even one."""
+    below, rest = divmod(value.numerator, value.denominator)
+    twice = 2 * rest
+    if twice > value.denominator or (twice == value.denominator and below % 2 == 1):
+        return below + 1
+    return below
+
+
+def floor_log2(value):
+    """The whole number e with 2^e <= value < 2^(e+1), for a positive fraction."""
+    guess = value.numerator.bit_length() - value.denominator.bit_length()
+    return guess if value >= Fraction(2) ** guess else guess - 1
+
+
+def nearest_bits(value):
+    """Pattern of the binary64 nearest to a fraction, ties to even; 0 gives +0."""
+    if value == 0:
+        return POSITIVE_ZERO
+    sign = SIGN_BIT if value < 0 else 0
+    magnitude = abs(value)
+    exponent = max(floor_log2(magnitude), -1022)
+    significand = round_half_even(magnitude / Fraction(2) ** (exponent - 52))
+    # Adding instead of joining lets a significand rounded up to the next power
+    # of two carry into the exponent, and leaves subnormals with exponent 0.
+    bits = ((exponent + 1022) << 52) + significand
+    return sign | min(bits, INFINITY_BITS)
+
+
+def nearest_float_whole(number):
+    """The whole number, representable in binary64, nearest to a whole number."""
+    magnitude = abs(number)
+    excess = magnitude.bit_length() - 53
+    if excess > 0:
+        magnitude = round_half_even(Fraction(magnitude, 1 << excess)) << excess
+    return -magnitude if number < 0 else magnitude
+
+
+def answer_bits(number):
+    """One coefficient as a float: rounded to a float whole, then divided once."""
+    return nearest_bits(Fraction(nearest_float_whole(number), ANSWER_UNIT))
+
+
+def refused(number, handed_back=POSITIVE_ZERO):
+    return number, [POSITIVE_ZERO] * 6, handed_back
+
+
+def read_floats(table, reading_bits):
+    """Give (number, six patterns, pattern of the reading handed back)."""
+    if len(table) != TABLE_LENGTH:
+        return refused(WRONG_TABLE_LENGTH)
+    trouble = soundness(table)
+    if trouble != DONE:
+        return refused(trouble)
+    for v in range(VARIABLE_COUNT):
+        if not is_finite(reading_bits[v]):
+            return refused(FIRST_NOT_FINITE + v)
+    readings = [round_half_even(exact_value(bits)) for bits in reading_bits]
+    outside = first_reading_outside(table, readings)
+    if outside is not None:
+        return refused(FIRST_READING_OUTSIDE + outside, reading_bits[outside])
+    answers = [answer_bits(number) for number in all_coefficients(table, readings)]
+    return DONE, answers, POSITIVE_ZERO

@@ -1,0 +1,33 @@
+"""The line program: bytes of five-number lines in, bytes of answer lines out."""
+
+import re
+
+from model import PUBLISHED_TABLE
+from tables import READ_LENGTH, read
+
+MALFORMED = 31
+
+# Written for bytes: the digit class then means the ten ASCII digits only.
+NUMBER = rb"-?[0-9]{1,4}"
+LINE = re.compile(NUMBER + rb"(?: " + NUMBER + rb"){4}")
+
+
+def split_lines(data):
+    """Lines without their newline; what follows the last newline counts if any."""
+    lines = data.split(b"\n")
+    if lines[-1] == b"":
+        lines.pop()
+    return lines
+
+
+def answer_line(line):
+    answers = [0] * READ_LENGTH
+    if LINE.fullmatch(line):
+        number = read(PUBLISHED_TABLE, [int(part) for part in line.split(b" ")], answers)
+    else:
+        number = MALFORMED
+    return b" ".join(b"%d" % value for value in [number] + answers) + b"\n"
+
+
+def run(data):
+    return b"".join(answer_line(line) for line in split_lines(data))
