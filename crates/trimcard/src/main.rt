@@ -4,14 +4,21 @@ use layout::TABLE;
 use libc::STDIN_FILENO;
 use libc::STDOUT_FILENO;
 ghost use mathlib.Core.Path.{_≡_};
+ghost use mathlib.Core.Bool.{true};
 ghost use Prim.Native.Nat.{_≤_};
 ghost use lib.ListN.{length};
 ghost use Rattle.answers.specs.Reading.{readingsAfter};
 
-// Answers a piece of the input, with a write each time the output is full.
-fn answer_piece(table: &[i64], reading: Reading, piece: &[u8], out: &mut [u8]) -> Reading
+// The reading after a piece, where all of its answers were written.
+struct Answered {
+    reading: Reading,
+    written: bool,
+}
+
+// Answers a piece of the input, with a write each time the output is full; stops where a write fails.
+fn answer_piece(table: &[i64], reading: Reading, piece: &[u8], out: &mut [u8]) -> Answered
     requires { ⌜ 147 ≤ length (now out) ⌝ }
-    ensures { λ r. ⌜ r ≡ readingsAfter reading (now (piece .entry)) ⌝ }
+    ensures { λ r. ⌜ (r .written ≡ true → r .reading ≡ readingsAfter reading (now (piece .entry))) ⌝ }
 {
     let mut current = reading;
     let mut at: usize = 0;
@@ -19,11 +26,19 @@ fn answer_piece(table: &[i64], reading: Reading, piece: &[u8], out: &mut [u8]) -
         let fed = answers::feed(table, current, &piece[at..], out);
         let from = 0;
         let put = fed.put;
-        io::write_all(STDOUT_FILENO, &out[from..put]);
+        if !io::write_all(STDOUT_FILENO, &out[from..put]) {
+            return Answered {
+                reading: current,
+                written: false,
+            };
+        }
         current = fed.reading;
         at += fed.taken;
     }
-    current
+    Answered {
+        reading: current,
+        written: true,
+    }
 }
 
 // Up to the end of the input. A proved loop has to end, so it counts its turns down from a number that no run uses up.
@@ -42,7 +57,11 @@ fn run(table: &[i64], buf: &mut [u8], out: &mut [u8])
             io::write_all(STDOUT_FILENO, &out[from..put]);
             return;
         }
-        reading = answer_piece(table, reading, &buf[from..n], out);
+        let answered = answer_piece(table, reading, &buf[from..n], out);
+        if !answered.written {
+            return;
+        }
+        reading = answered.reading;
     }
 }
 

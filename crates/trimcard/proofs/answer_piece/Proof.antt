@@ -1,11 +1,13 @@
 -- `trimcard::answer_piece` meets its contract. The loop's invariant: the reading is that of the bytes answered. Each turn takes a byte, since the output has
 -- room for an answer when the turn begins.
 -- Assumes nothing.
-use mathlib.Core.Path.{_≡_, refl, sym, ap, ap₂, _∙_}
+use mathlib.Core.Path.{_≡_, refl, sym, ap, ap₂, subst, _∙_}
+use mathlib.Core.Bool.{not}
 use mathlib.Core.List.{List}
 use Prim.Native.Nat.{ℕ, zero, suc, _-_, _≤_, _<_}
 use native.Mathlib.Omega.{arith}
 use borrow.Author.Needs.{needs}
+use lib.Dec.{T}
 use lib.ListN.{length, take, drop, length-drop}
 use lib.Seq.{take-all, take-add}
 use lib.IntN.{ℤ}
@@ -59,24 +61,32 @@ part-write-all-end c = let f = c .before .before .before .feed in omega (arith, 
 write-all-requires : tie.Need-write-all-requires Inv-loop μ-loop
 write-all-requires c κs = search needs
 
+same-length : tie.Need-same-length Inv-loop μ-loop
+same-length c =
+    let f = c .before .before .before .before .before .before .feed in
+    f .kept .1 .1 .1 .0 ∙ c .before .before .before .before .before .before .before .before .before .before .loop .inv .1
+
+returns : tie.Need-returns Inv-loop μ-loop
+returns c e = absurd (subst (λ b. T (not b)) e tt)
+
 add-at : tie.Need-add-at Inv-loop μ-loop
 add-at c = search needs
 
 loop-less : tie.Need-loop-less Inv-loop μ-loop
 loop-less c =
-    let start = c .before .before .before .before .before .before .before .before .before .before .before .before .before .before in
-    let l = c .before .before .before .before .before .before .before .before .before .before .before .loop in
-    let f = c .before .before .before .before .before .before .before .feed in
-    let h = c .before .before .before .before .before .before .before .before .before .before .loop-test .taken in
+    let start = c .before .before .before .before .before .before .before .before .before .before .before .before .before .before .before in
+    let l = c .before .before .before .before .before .before .before .before .before .before .before .before .loop in
+    let f = c .before .before .before .before .before .before .before .before .feed in
+    let h = c .before .before .before .before .before .before .before .before .before .before .before .loop-test .taken in
     let left = ap length (rest (l .at) (start .args .piece .now)) ∙ length-drop (l .at) (start .args .piece .now) in
     let some = progress (f .result) (f .ensures) (omega (arith, left, h)) (omega (arith, start .pre, l .inv .1)) (f .result .taken) refl in
     omega (arith, some, left, f .ensures .within)
 
 loop-again : tie.Need-loop-again Inv-loop μ-loop
 loop-again c =
-    let a = c .before .before .before .before .before .before .before .before .before .before .before .before .before .before .args in
-    let l = c .before .before .before .before .before .before .before .before .before .before .before .loop in
-    let f = c .before .before .before .before .before .before .before .feed in
+    let a = c .before .before .before .before .before .before .before .before .before .before .before .before .before .before .before .args in
+    let l = c .before .before .before .before .before .before .before .before .before .before .before .before .loop in
+    let f = c .before .before .before .before .before .before .before .before .feed in
     let bytes = take (f .result .taken) (drop (l .at) (a .piece .now)) in
     let part = rest (l .at) (a .piece .now) in (
       omega (arith, ap length part ∙ length-drop (l .at) (a .piece .now), f .ensures .within, l .inv .0),
@@ -87,11 +97,11 @@ loop-again c =
           ∙ ap (readingsAfter (a .reading)) (sym (take-add (l .at) (f .result .taken) (a .piece .now))),
     )
 
-same-length : tie.Need-same-length Inv-loop μ-loop
-same-length c = search needs
+same-length-2 : tie.Need-same-length-2 Inv-loop μ-loop
+same-length-2 c = search needs
 
-returns : tie.Need-returns Inv-loop μ-loop
-returns c =
+returns-2 : tie.Need-returns-2 Inv-loop μ-loop
+returns-2 c e =
     let a = c .before .before .before .before .args in
     let l = c .before .loop in
     l .inv .2 ∙ ap (readingsAfter (a .reading)) (take-all (l .at) (a .piece .now) (c .loop-test .left))
@@ -111,8 +121,10 @@ answer-piece-spec =
     part-write-all-start
     part-write-all-end
     write-all-requires
+    same-length
+    returns
     add-at
     loop-less
     loop-again
-    same-length
-    returns)
+    same-length-2
+    returns-2)
