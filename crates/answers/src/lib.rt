@@ -67,7 +67,7 @@ fn put_answer(number: u64, values: [i64; 6], out: &mut [u8], at: usize) -> usize
 }
 
 // The answer of a table to a line, from the place `at` on; gives the place behind it.
-pub fn put_line(table: &[i64], line: Line, out: &mut [u8], at: usize) -> usize
+fn put_line(table: &[i64], line: Line, out: &mut [u8], at: usize) -> usize
     requires { ⌜ at + 147 ≤ length (now out) ⌝ }
     ensures place { λ r. ⌜ r ≡ at + length (answerOf (now (table .entry)) line) ⌝ }
     ensures output { λ r. ⌜ now (out .exit) ≡ written (now (out .entry)) at (answerOf (now (table .entry)) line) ⌝ }
