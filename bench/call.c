@@ -4,7 +4,6 @@
 #include "peer.h"
 #include <stdio.h>
 #include <stdlib.h>
-#include <string.h>
 #include <time.h>
 
 static int64_t table[CLOCHECLOAK_TABLE], moved[CLOCHECLOAK_TABLE], six[6];
@@ -15,13 +14,10 @@ int main(int argc, char **argv) {
     struct timespec from, to;
     uint64_t number = clochecloak_publish(table, CLOCHECLOAK_TABLE);
     clock_gettime(CLOCK_MONOTONIC, &from);
-    for (int i = 0; i < count; i++) {
-        if (!strcmp(argv[1], "read"))
-            number += (ours ? clochecloak_read : peer_read)(table, 311, 100, 20, -30, 40, -50, six, 6);
-        else if (!strcmp(argv[1], "floats"))
-            number += (ours ? clochecloak_read_floats : peer_read_floats)(table, 311, 100.4, 20.5, -30, 40, -50).number;
-        else
-            number += (ours ? clochecloak_move : peer_move)(table, 311, 0, 35, moved, 311);
+    for (int i = 0; i < count; i++) switch (argv[1][0]) {
+        case 'r': number += (ours ? clochecloak_read : peer_read)(table, 311, 100, 20, -30, 40, -50, six, 6); break;
+        case 'f': number += (ours ? clochecloak_read_floats : peer_read_floats)(table, 311, 100.4, 20.5, -30, 40, -50).number; break;
+        default: number += (ours ? clochecloak_move : peer_move)(table, 311, 0, 35, moved, 311);
     }
     clock_gettime(CLOCK_MONOTONIC, &to);
     if (argc > 4) {
