@@ -18,7 +18,7 @@ use lib.Seq.{take-suc, getD-drop, take-add}
 use Rattle.lines.specs.State.{stepped, stepsOf, finished}
 use Rattle.lines.proofs.Steps.{steps-append}
 use Rattle.answers.specs.declared.Reading.{Reading}
-use Rattle.answers.specs.Answers.{answerOf}
+use Rattle.answers.specs.Answers.{answerOf, longest}
 use Rattle.answers.specs.Reading.{fresh, readingAfter, readingsAfter, answerAt, answersOf, part, Plain, LinePart, Taken}
 use Rattle.answers.specs.declared.Part.{Part}
 use Rattle.printing.specs.Spell.{written}
@@ -116,7 +116,7 @@ module _ (t : List ℤ) (r : Reading) (input : List ℕ) (from : ℕ) (out : Lis
       }
 
   -- up to a newline, with the line's answer
-  pub took-line : (out′ : List ℕ) (put : ℕ) → p .end < length input → put ≡ at + length (answerOf t (finished (p .line))) → out′ ≡ written out at (answerOf t (finished (p .line))) → put ≤ at + 147
+  pub took-line : (out′ : List ℕ) (put : ℕ) → p .end < length input → put ≡ at + length (answerOf t (finished (p .line))) → out′ ≡ written out at (answerOf t (finished (p .line))) → put ≤ at + longest
       → Taken t r input from out out′ at (record { reading = fresh; taken = p .end + 1; put = put })
   took-line out′ put h place output room =
       let byte = getD input (p .end) 0 in

@@ -10,7 +10,7 @@ use Rattle.lines.specs.State.{start, stepped, stepsOf, finished}
 use Rattle.lines.specs.declared.State.{State}
 use Rattle.tables.specs.Ready.{tableNumber}
 use Rattle.printing.specs.Spell.{written}
-use Rattle.answers.specs.Answers.{answerOf}
+use Rattle.answers.specs.Answers.{answerOf, longest}
 use Rattle.answers.specs.declared.Reading.{Reading}
 use Rattle.answers.specs.declared.Fed.{Fed}
 use Rattle.answers.specs.declared.Part.{Part}
@@ -58,7 +58,7 @@ pub record LinePart (s : State) (input : List ℕ) (from : ℕ) (p : Part) : Typ
 pub record Taking (t : List ℤ) (refused : ℕ) (input : List ℕ) (from : ℕ) (out : List ℕ) (at : ℕ) : Type 0 where
   pub known : refused ≡ tableNumber t
   pub byte : from < length input
-  pub room : at + 147 ≤ length out
+  pub room : at + longest ≤ length out
 
 -- what is known after the part, and its answer, which nothing comes before
 pub record Taken (t : List ℤ) (r : Reading) (input : List ℕ) (from : ℕ) (out out′ : List ℕ) (at : ℕ) (f : Fed) : Type 0 where
@@ -67,7 +67,7 @@ pub record Taken (t : List ℤ) (r : Reading) (input : List ℕ) (from : ℕ) (o
   pub reading : f .reading ≡ readingsAfter r (part input from (f .taken))
   pub place : f .put ≡ at + length (answersOf t r (part input from (f .taken)))
   pub output : out′ ≡ written out at (answersOf t r (part input from (f .taken)))
-  pub room : f .put ≤ at + 147
+  pub room : f .put ≤ at + longest
   pub silent : (i : ℕ) → from ≤ i → i < f .taken → answersOf t r (part input from i) ≡ []
 
 -- ════ a piece of the input: `out` is the output before, `out′` the output afterwards
@@ -78,5 +78,5 @@ pub record Feeding (t : List ℤ) (r : Reading) (input out out′ : List ℕ) (f
   pub output : out′ ≡ written out 0 (answersOf t r (take (f .taken) input))
   pub room : f .put ≤ length out
   -- before each byte that is taken there is room for an answer, and there is none where a byte is left
-  pub roomy : (i : ℕ) → i < f .taken → length (answersOf t r (take i input)) + 147 ≤ length out
-  pub full : f .taken < length input → length out < f .put + 147
+  pub roomy : (i : ℕ) → i < f .taken → length (answersOf t r (take i input)) + longest ≤ length out
+  pub full : f .taken < length input → length out < f .put + longest

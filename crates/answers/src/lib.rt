@@ -3,7 +3,7 @@ ghost use mathlib.Core.Path.{_≡_};
 ghost use Prim.Native.Nat.{_+_, _≤_};
 ghost use lib.ListN.{length};
 ghost use Rattle.printing.specs.Spell.{written};
-ghost use Rattle.answers.specs.Answers.{spaced, numbered, answerOf};
+ghost use Rattle.answers.specs.Answers.{spaced, numbered, answerOf, longestValues, longest};
 ghost use Rattle.tables.specs.Ready.{tableNumber};
 ghost use Rattle.answers.specs.Reading.{fresh, lastAnswer, Feeding, LinePart, Taking, Taken};
 use lines::Line;
@@ -40,10 +40,10 @@ pub struct Fed {
 
 // Six coefficients, each behind a space, from the place `at` on; gives the place behind them.
 fn put_values(values: [i64; 6], out: &mut [u8], at: usize) -> usize
-    requires { ⌜ at + 126 ≤ length (now out) ⌝ }
+    requires { ⌜ at + longestValues ≤ length (now out) ⌝ }
     ensures place { λ r. ⌜ r ≡ at + length (spaced values) ⌝ }
     ensures output { λ r. ⌜ now (out .exit) ≡ written (now (out .entry)) at (spaced values) ⌝ }
-    ensures room { λ r. ⌜ r ≤ at + 126 ⌝ }
+    ensures room { λ r. ⌜ r ≤ at + longestValues ⌝ }
 {
     let mut place = at;
     let mut k: usize = 0;
@@ -57,10 +57,10 @@ fn put_values(values: [i64; 6], out: &mut [u8], at: usize) -> usize
 
 // A whole answer with its newline.
 fn put_answer(number: u64, values: [i64; 6], out: &mut [u8], at: usize) -> usize
-    requires { ⌜ at + 147 ≤ length (now out) ⌝ }
+    requires { ⌜ at + longest ≤ length (now out) ⌝ }
     ensures place { λ r. ⌜ r ≡ at + length (numbered number values) ⌝ }
     ensures output { λ r. ⌜ now (out .exit) ≡ written (now (out .entry)) at (numbered number values) ⌝ }
-    ensures room { λ r. ⌜ r ≤ at + 147 ⌝ }
+    ensures room { λ r. ⌜ r ≤ at + longest ⌝ }
 {
     let behind = put_digits(number, out, at);
     let end = put_values(values, out, behind);
@@ -70,10 +70,10 @@ fn put_answer(number: u64, values: [i64; 6], out: &mut [u8], at: usize) -> usize
 
 // The answer of a table, whose own refusal is known, to a line, from the place `at` on; gives the place behind it.
 fn put_line(table: &[i64], refused: u64, line: Line, out: &mut [u8], at: usize) -> usize
-    requires { ⌜ (refused ≡ tableNumber (now table)) × (at + 147 ≤ length (now out)) ⌝ }
+    requires { ⌜ (refused ≡ tableNumber (now table)) × (at + longest ≤ length (now out)) ⌝ }
     ensures place { λ r. ⌜ r ≡ at + length (answerOf (now (table .entry)) line) ⌝ }
     ensures output { λ r. ⌜ now (out .exit) ≡ written (now (out .entry)) at (answerOf (now (table .entry)) line) ⌝ }
-    ensures room { λ r. ⌜ r ≤ at + 147 ⌝ }
+    ensures room { λ r. ⌜ r ≤ at + longest ⌝ }
 {
     let mut values = [0i64; 6];
     match line {
@@ -184,10 +184,10 @@ pub fn feed(table: &[i64], reading: Reading, input: &[u8], out: &mut [u8]) -> Fe
 
 // At the end of the input: the answer to a last line that no newline ends, from the place `at` on; gives the place behind it.
 pub fn finish(table: &[i64], reading: Reading, out: &mut [u8], at: usize) -> usize
-    requires { ⌜ at + 147 ≤ length (now out) ⌝ }
+    requires { ⌜ at + longest ≤ length (now out) ⌝ }
     ensures place { λ r. ⌜ r ≡ at + length (lastAnswer (now (table .entry)) reading) ⌝ }
     ensures output { λ r. ⌜ now (out .exit) ≡ written (now (out .entry)) at (lastAnswer (now (table .entry)) reading) ⌝ }
-    ensures room { λ r. ⌜ r ≤ at + 147 ⌝ }
+    ensures room { λ r. ⌜ r ≤ at + longest ⌝ }
 {
     let line = reading.line;
     if reading.begun {

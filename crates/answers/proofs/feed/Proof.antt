@@ -11,6 +11,7 @@ use lib.IntN.{ℤ}
 use lib.ListN.{length, take, length-append}
 use Rattle.printing.specs.Spell.{written}
 use Rattle.printing.proofs.Writing.{written-append}
+use Rattle.answers.specs.Answers.{longest}
 use Rattle.answers.specs.Reading.{readingsAfter, answersOf, part, Taken}
 use Rattle.answers.specs.declared.Fed.{Fed}
 use Rattle.answers.proofs.Parts.{joined-readings, joined-answers}
@@ -25,7 +26,7 @@ Inv-loop table input out₀ refused current₀ taken₀ put₀ out current taken
     × (put ≡ length (answersOf table current₀ (take taken input)))
     × (put ≤ length out₀)
     × (out ≡ written out₀ 0 (answersOf table current₀ (take taken input)))
-    × ((i : ℕ) → i < taken → length (answersOf table current₀ (take i input)) + 147 ≤ length out₀)
+    × ((i : ℕ) → i < taken → length (answersOf table current₀ (take i input)) + longest ≤ length out₀)
 
 abbrev μ-loop : tie.MeasureT-loop
 μ-loop table input out₀ refused current₀ taken₀ put₀ out current taken put = length input - taken
@@ -85,7 +86,7 @@ module _ (c : tie.After-take-line Inv-loop μ-loop) where
   joined : (end : ℕ) → from ≤ end → before ++ own end ≡ answersOf table (begin .args .reading) (take end input)
   joined = joined-answers table (begin .args .reading) input from
 
-  room : at .loop .put + 147 ≤ length (begin .args .out .now)
+  room : at .loop .put + longest ≤ length (begin .args .out .now)
   room = omega (arith, c .before .before .if1 .left, at .loop .inv .1, at .loop .inv .4)
 
   place : fed .put ≡ length (before ++ own (fed .taken))
@@ -101,10 +102,10 @@ module _ (c : tie.After-take-line Inv-loop μ-loop) where
       ∙ written-append (begin .args .out .now) 0 before (own (fed .taken)) (omega (arith, place, within))
 
   -- nothing is answered before its last byte
-  roomy : (i : ℕ) → i < fed .taken → length (answersOf table (begin .args .reading) (take i input)) + 147 ≤ length (begin .args .out .now)
+  roomy : (i : ℕ) → i < fed .taken → length (answersOf table (begin .args .reading) (take i input)) + longest ≤ length (begin .args .out .now)
   roomy i h = pick (decLt i from)
     where
-      pick : Dec (i < from) → length (answersOf table (begin .args .reading) (take i input)) + 147 ≤ length (begin .args .out .now)
+      pick : Dec (i < from) → length (answersOf table (begin .args .reading) (take i input)) + longest ≤ length (begin .args .out .now)
       pick (yes b) = at .loop .inv .6 i b
       pick (no b) =
           let e = sym (joined i (omega arith)) ∙ ap (λ xs. before ++ xs) (turn .silent i (omega arith) h) ∙ append-nil before in
