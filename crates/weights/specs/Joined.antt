@@ -13,11 +13,12 @@ use Rattle.polynomials.specs.Limits.{cap, highest}
 use Rattle.polynomials.specs.declared.Weighed.{Weighed}
 use Rattle.polynomials.specs.declared.Weighed.the-variants.{Within, Passed}
 use Rattle.layout.specs.Shape.{tableLength, cumulus}
+use Rattle.layout.specs.Numbers.{limits, block, side, xiStart, zetaStart}
 use Rattle.weights.specs.Terms.{product}
 
 -- the magnitude at a place of block b
 abbrev pub sizeAt : List ℤ → ℕ → ℕ → ℕ
-sizeAt t b k = natAbs (getD t (11 + 50 * b + k) (pos 0))
+sizeAt t b k = natAbs (getD t (limits + block * b + k) (pos 0))
 
 -- none of the first n blocks has a magnitude larger than m at the place k
 abbrev pub Joined : List ℤ → ℕ → ℕ → ℕ → Type 0
@@ -25,7 +26,7 @@ Joined t n k m = (b : ℕ) → b < n → sizeAt t b k ≤ m
 
 -- the same for n numbers and the places from `start` on
 abbrev pub AllJoined : List ℤ → ℕ → ℕ → List ℕ → Type 0
-AllJoined t start n l = (k : ℕ) → k < n → Joined t 6 (start + k) (getD l k 0)
+AllJoined t start n l = (k : ℕ) → k < n → Joined t (cumulus .blocks) (start + k) (getD l k 0)
 
 -- the weight of n numbers from the place `start` of block b on, as a group
 abbrev pub groupWeight : List ℤ → ℕ → ℕ → ℕ → ℕ → ℕ → ℕ
@@ -37,12 +38,12 @@ reach l i = natAbs (getD l i (pos 0))
 
 -- no block's weighs more than was found
 abbrev pub heaviest : List ℤ → ℕ → ℕ → ℕ → ℕ → Weighed → Type 0
-heaviest t start n x y (Within m) = (m ≤ cap) × ((b : ℕ) → b < 6 → groupWeight t b start n x y ≤ m)
+heaviest t start n x y (Within m) = (m ≤ cap) × ((b : ℕ) → b < cumulus .blocks → groupWeight t b start n x y ≤ m)
 heaviest t start n x y Passed = Unit {0}
 
 -- no block's two side groups weigh more together
 abbrev pub heaviestSides : List ℤ → List ℤ → Weighed → Type 0
-heaviestSides t l (Within m) = (m ≤ cap) × ((b : ℕ) → b < 6 → groupWeight t b 20 15 (reach l 1) (reach l 2) + groupWeight t b 35 15 (reach l 1) (reach l 4) ≤ m)
+heaviestSides t l (Within m) = (m ≤ cap) × ((b : ℕ) → b < cumulus .blocks → groupWeight t b xiStart side (reach l 1) (reach l 2) + groupWeight t b zetaStart side (reach l 1) (reach l 4) ≤ m)
 heaviestSides t l Passed = Unit {0}
 
 -- what is so where the answer is yes; where it is no, nothing is said
@@ -59,7 +60,7 @@ pub record SameSides (l h : List ℤ) : Type 0 where
 -- the places of a group of n numbers, and the two reaches
 pub record Placed (t : List ℤ) (start n : ℕ) (r s : ℤ) : Type 0 where
   pub whole : length t ≡ tableLength cumulus
-  pub inside : start + n ≤ 50
+  pub inside : start + n ≤ block
   pub one-r : pos 1 ≤ℤ r
   pub one-s : pos 1 ≤ℤ s
 

@@ -17,6 +17,7 @@ weigh-requires c κs =
     record { placed = placed-bits (a .args .table .now) (a .args .start) (size 3) (a .fits .r) (a .fits .t) (a .pre); few = omega arith; sized = refl }
 
 returns : tie.Need-returns
+unfolding below
 returns c =
     let a = c .before .before .before in
     let w = c .before .weigh in
