@@ -6,7 +6,7 @@ ghost use lib.ListN.{length};
 ghost use Rattle.polynomials.specs.Numbers.{ints};
 ghost use Rattle.polynomials.specs.Sum.{listed};
 ghost use Rattle.polynomials.specs.Order.{next, place};
-ghost use Rattle.polynomials.specs.Binomial.{choose};
+ghost use Rattle.polynomials.specs.Binomial.{choose, binomials};
 ghost use Rattle.polynomials.specs.Group.{own, value, weight, movedNumber, moved};
 ghost use Rattle.polynomials.specs.Limits.{cap, farthest, highest, against};
 ghost use Rattle.polynomials.specs.Ready.{Readable, Weighable, Movable};
@@ -16,14 +16,8 @@ pub mod gathering;
 // No weight may pass it: 9 x 10^18.
 pub const CAP: u64 = 9_000_000_000_000_000_000;
 
-// The binomial numbers for powers 0 to 4, a row for each power.
-const ROWS: [[i64; 5]; 5] = [
-    [1, 0, 0, 0, 0],
-    [1, 1, 0, 0, 0],
-    [1, 2, 1, 0, 0],
-    [1, 3, 3, 1, 0],
-    [1, 4, 6, 4, 1],
-];
+// The binomial numbers for powers 0 to 4: k over p stands where a group has the power k - p of u and p of v.
+const TRIANGLE: [i64; 15] = [1, 1, 1, 1, 2, 1, 1, 3, 3, 1, 1, 4, 6, 4, 1];
 
 // One of the two variables of a group.
 pub enum Variable {
@@ -117,11 +111,11 @@ pub fn powers_of(x: i64) -> [i64; 5]
 }
 
 // k over p.
-fn binomial(k: usize, p: usize) -> i64
-    requires { ⌜ (k < 5) × (p < 5) ⌝ }
+fn binomial(triangle: &[i64], k: usize, p: usize) -> i64
+    requires { ⌜ (now triangle ≡ binomials) × ((k ≤ highest) × (p ≤ k)) ⌝ }
     ensures { λ r. ⌜ r ≡ pos (choose k p) ⌝ }
 {
-    ROWS[k][p]
+    triangle[k * (k + 1) / 2 + p]
 }
 
 // The value of a group at the readings x and y.
@@ -189,8 +183,15 @@ pub fn add_weight(group: &[i64], r: i64, t: i64, sum: u64) -> Weighed
 // The number that stands at the place `at`, before the powers `w`, once the group is moved by s. The larger powers of the
 // variable stand further and further on; each number is multiplied by its power of s first, so that nothing is formed
 // that the weight does not bound.
-fn moved_number(from: &[i64], which: Variable, s: i64, at: usize, w: Powers) -> i64
-    requires { ⌜ Movable which s (now from) × ((at ≡ place (w .first) (w .second)) × (at < length (now from))) ⌝ }
+fn moved_number(
+    from: &[i64],
+    which: Variable,
+    s: i64,
+    at: usize,
+    w: Powers,
+    triangle: &[i64],
+) -> i64
+    requires { ⌜ (now triangle ≡ binomials) × (Movable which s (now from) × ((at ≡ place (w .first) (w .second)) × (at < length (now from)))) ⌝ }
     ensures { λ r. ⌜ r ≡ movedNumber ints which s (now (from .entry)) (w .first) (w .second) ⌝ }
 {
     let mut gap = w.gap(which);
@@ -200,7 +201,7 @@ fn moved_number(from: &[i64], which: Variable, s: i64, at: usize, w: Powers) -> 
     let mut j: usize = 0;
     while i < from.len() {
         let own = w.own(which);
-        sum += from[i] * power * binomial(own + j, own);
+        sum += from[i] * power * binomial(triangle, own + j, own);
         power = power * s;
         i += gap;
         gap += 1;
@@ -214,13 +215,14 @@ pub fn move_group(from: &[i64], out: &mut [i64], which: Variable, s: i64)
     requires { ⌜ Movable which s (now from) × (length (now out) ≡ length (now from)) ⌝ }
     ensures { λ r. ⌜ now (out .exit) ≡ moved which s (now (from .entry)) ⌝ }
 {
+    let triangle = TRIANGLE;
     let mut w = Powers {
         first: 0,
         second: 0,
     };
     let mut at: usize = 0;
     while at < from.len() {
-        let x = moved_number(from, which, s, at, w);
+        let x = moved_number(from, which, s, at, w, &triangle);
         out[at] = x;
         w = w.next();
         at += 1;

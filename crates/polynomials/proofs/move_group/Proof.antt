@@ -12,7 +12,8 @@ use mir.Val.{toZ, ofZ}
 use mir.Facts.{toZ-ofZ}
 use Rattle.polynomials.specs.Numbers.{ints}
 use Rattle.polynomials.specs.Sum.{listed}
-use Rattle.polynomials.specs.Order.{powers, place}
+use Rattle.polynomials.specs.Order.{powers, below, place}
+use Rattle.polynomials.specs.Binomial.{choose}
 use Rattle.polynomials.specs.Group.{movedNumber, replaced}
 use Rattle.polynomials.specs.Ready.{Movable}
 use Rattle.polynomials.specs.declared.Powers.{Powers}
@@ -28,11 +29,11 @@ movedAt : Variable → ℤ → List ℤ → ℕ → ℤ
 movedAt w s l k = movedNumber ints w s l (powers k .first) (powers k .second)
 
 abbrev Inv-loop : tie.InvT-loop
-Inv-loop from out₀ which s w₀ at₀ out w at =
+Inv-loop from out₀ which s triangle w₀ at₀ out w at =
     (at ≤ length from) × (length out ≡ length from) × (w ≡ powers at) × (take at out ≡ listed at (movedAt which (toZ w64 s) from))
 
 abbrev μ-loop : tie.MeasureT-loop
-μ-loop from out₀ which s w₀ at₀ out w at = length from - at
+μ-loop from out₀ which s triangle w₀ at₀ out w at = length from - at
 
 low : (c : tie.In-loop Inv-loop μ-loop) → c .before .loop .w .first + c .before .loop .w .second < 5
 low c =
@@ -42,22 +43,25 @@ loop-holds : tie.Need-loop-holds Inv-loop μ-loop
 unfolding powers listed
 loop-holds c = (omega arith, c .pre .1, refl, refl)
 
+slice-aggregate-moved-number : tie.Need-slice-aggregate-moved-number Inv-loop μ-loop
+slice-aggregate-moved-number c = search needs
+
 moved-number-requires : tie.Need-moved-number-requires Inv-loop μ-loop
+unfolding choose listed powers below
 moved-number-requires c κs =
-    let a = c .before .before in
-    let k = c .before .loop .at in (
-      subst (λ z. Movable (a .args .which) z (a .args .from .now)) (sym (toZ-ofZ (a .fits .s))) (a .pre .0),
-      (sym (place-powers k) ∙ ap (λ (w : Powers). place (w .first) (w .second)) (sym (c .before .loop .inv .2)), c .loop-test .taken),
-    )
+    let a = c .before .before .before in
+    let k = c .before .before .loop .at in
+    let here = sym (place-powers k) ∙ ap (λ (w : Powers). place (w .first) (w .second)) (sym (c .before .before .loop .inv .2)) in
+    (refl, (subst (λ z. Movable (a .args .which) z (a .args .from .now)) (sym (toZ-ofZ (a .fits .s))) (a .pre .0), (here, c .before .loop-test .taken)))
 
 mul-x : tie.Need-mul-x Inv-loop μ-loop
 mul-x c = search needs
 
 slice-set-from-x : tie.Need-slice-set-from-x Inv-loop μ-loop
-slice-set-from-x c = omega (arith, c .before .before .loop .inv .1)
+slice-set-from-x c = omega (arith, c .before .before .before .loop .inv .1)
 
 next-requires : tie.Need-next-requires Inv-loop μ-loop
-next-requires c κs = omega (arith, low (c .before))
+next-requires c κs = omega (arith, low (c .before .before))
 
 add-at : tie.Need-add-at Inv-loop μ-loop
 add-at c = search needs
@@ -69,16 +73,16 @@ loop-again : tie.Need-loop-again Inv-loop μ-loop
 unfolding movedAt
 loop-again c =
     let d = c .before in
-    let l = d .before .before .loop in
-    let a = d .before .before .before in
+    let l = d .before .before .before .loop in
+    let a = d .before .before .before .before in
     let number : toZ w64 (ofZ w64 (d .moved-number .result)) ≡ movedAt (a .args .which) (toZ w64 (ofZ w64 (a .args .s))) (a .args .from .now) (l .at) =
     toZ-ofZ (sfits-of {z = d .moved-number .result} (d .moved-number .ok)) ∙ d .moved-number .ensures
     ∙ ap (λ (w : Powers). movedNumber ints (a .args .which) (toZ w64 (ofZ w64 (a .args .s))) (a .args .from .now) (w .first) (w .second)) (l .inv .2)
     in (
-      omega (arith, d .before .loop-test .taken),
+      omega (arith, d .before .before .loop-test .taken),
       length-set (l .out) (l .at) _ ∙ l .inv .1,
       c .next .ensures ∙ powers-more (l .w) (l .at) (l .inv .2),
-      listed-more (l .out) (movedAt (a .args .which) (toZ w64 (ofZ w64 (a .args .s))) (a .args .from .now)) (l .at) _ (omega (arith, l .inv .1, d .before .loop-test .taken)) (l .inv .3) number,
+      listed-more (l .out) (movedAt (a .args .which) (toZ w64 (ofZ w64 (a .args .s))) (a .args .from .now)) (l .at) _ (omega (arith, l .inv .1, d .before .before .loop-test .taken)) (l .inv .3) number,
     )
 
 same-length : tie.Need-same-length Inv-loop μ-loop
@@ -99,6 +103,7 @@ move-group-spec =
     Inv-loop
     μ-loop
     loop-holds
+    slice-aggregate-moved-number
     moved-number-requires
     mul-x
     slice-set-from-x
