@@ -9,11 +9,11 @@ from fractions import Fraction
 import door
 import tables
 import trimcard
-from cases import (
-    Generator, canary_list, inside_state, shifted, with_place, with_reading,
-    zero_table, NARROW_LIMITS,
+from book import Generator, canary_list
+from makers import (
+    NARROW_LIMITS, SPECIAL_BITS, inside_float_state, inside_state, random_table,
+    shifted, with_place, with_reading, zero_table,
 )
-from makers import SPECIAL_BITS, inside_float_state, random_table
 from model import (
     BLOCK_COUNT, FIRST_BLOCK, GROUPS, PRINTED, PUBLISHED_TABLE, parse_polynomial,
     place_of,

@@ -1,35 +1,95 @@
-// Runs cases through the library, and writes a line for each; an independent program writes the same lines.
-mod borders;
-mod drawn;
-mod fixed;
+// Runs listed cases through the library and writes a line for each; an independent program writes the same lines.
+mod checked;
+mod ends;
 mod refused;
-mod usual;
+mod shifts;
+mod single;
 
-use book::lines::ROOM;
 use layout::TABLE;
-use usual::LONG;
+use makers::plain::published;
 
-fn sections(t: &[i64; TABLE], room: &mut [i64; LONG], count: &mut u64, line: &mut [u8; ROOM]) {
-    fixed::publish_section(t, room, count, line);
-    fixed::checked_values_section(t, count, line);
-    borders::limits_section(t, count, line);
-    borders::moves_section(t, count, line);
-    refused::lengths_section(t, room, count, line);
-    refused::order_section(room, count, line);
-    drawn::reads_section(t, count, line);
-    drawn::moved_section(t, count, line);
-    drawn::chains_section(t, count, line);
-    drawn::bad_limits_section(t, count, line);
-    drawn::damaged_section(t, count, line);
-    refused::smallest_number_section(count, line);
-    refused::single_places_section(count, line);
+enum Section {
+    Publish,
+    Places,
+    CheckedReads,
+    CheckedMoves,
+    MovedPlaces,
+    CheckedCap,
+    CheckedNarrow,
+    Readings,
+    Cut,
+    Corners,
+    Pairs,
+    Shifts,
+    Borders,
+    NoVariable,
+    ReadLengths,
+    MoveLengths,
+    ReadOrder,
+    MoveOrder,
+    Smallest,
+    Single,
+}
+
+// The k-th turn of a section.
+fn turn(section: Section, k: usize, t: &[i64; TABLE], count: &mut u64) {
+    match section {
+        Section::Publish => checked::publish(k, count),
+        Section::Places => checked::place(t, k, count),
+        Section::CheckedReads => checked::read_state(t, k, count),
+        Section::CheckedMoves => checked::move_alpha(t, k, count),
+        Section::MovedPlaces => checked::moved_place(t, k, count),
+        Section::CheckedCap => checked::cap(k, count),
+        Section::CheckedNarrow => checked::narrow(k, count),
+        Section::Readings => ends::reading(t, k, count),
+        Section::Cut => ends::cut(t, k, count),
+        Section::Corners => ends::corner(t, k, count),
+        Section::Pairs => ends::pair(t, k, count),
+        Section::Shifts => shifts::shift(t, k, count),
+        Section::Borders => shifts::border(t, k, count),
+        Section::NoVariable => shifts::no_variable(t, k, count),
+        Section::ReadLengths => refused::read_lengths(k, count),
+        Section::MoveLengths => refused::move_lengths(k, count),
+        Section::ReadOrder => refused::read_order(k, count),
+        Section::MoveOrder => refused::move_order(k, count),
+        Section::Smallest => single::smallest(k, count),
+        Section::Single => single::single(k, count),
+    }
+}
+
+fn turns(section: Section, end: usize, t: &[i64; TABLE], count: &mut u64) {
+    let mut k: usize = 0;
+    while k < end {
+        turn(section, k, t, count);
+        k += 1;
+    }
+}
+
+fn sections(t: &[i64; TABLE], count: &mut u64) {
+    turns(Section::Publish, 7, t, count);
+    turns(Section::Places, TABLE, t, count);
+    turns(Section::CheckedReads, 11, t, count);
+    turns(Section::CheckedMoves, 3, t, count);
+    turns(Section::MovedPlaces, 21, t, count);
+    turns(Section::CheckedCap, 2, t, count);
+    turns(Section::CheckedNarrow, 5, t, count);
+    turns(Section::Readings, 65, t, count);
+    turns(Section::Cut, 8, t, count);
+    turns(Section::Corners, 32, t, count);
+    turns(Section::Pairs, 25, t, count);
+    turns(Section::Shifts, 95, t, count);
+    turns(Section::Borders, 10, t, count);
+    turns(Section::NoVariable, 30, t, count);
+    turns(Section::ReadLengths, 99, t, count);
+    turns(Section::MoveLengths, 99, t, count);
+    turns(Section::ReadOrder, 512, t, count);
+    turns(Section::MoveOrder, 128, t, count);
+    turns(Section::Smallest, TABLE, t, count);
+    turns(Section::Single, 300, t, count);
 }
 
 fn main() {
-    let mut published = [0i64; TABLE];
-    let mut room = [0i64; LONG];
+    let t = published();
     let mut count: u64 = 0;
-    let mut line = [0u8; ROOM];
-    cumulus::publish(&mut published);
-    sections(&published, &mut room, &mut count, &mut line);
+    sections(&t, &mut count);
 }
