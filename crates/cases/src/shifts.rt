@@ -1,27 +1,17 @@
 // Moves of the published table, small, at the border of what is accepted, and far. Each function runs the k-th case of its list.
 use super::ends::LEAST_BUT_ONE;
 use super::ends::MOST_BUT_ONE;
+use book::usual::moves_at_border;
 use book::usual::try_move;
 use layout::TABLE;
 use layout::VARIABLES;
-use makers::borders::last_accepted;
-use makers::borders::with_sign;
 use makers::plain::PUBLISHED_LIMITS;
 use makers::plain::bare;
 use makers::plain::highest;
 use makers::plain::lowest;
-use std::num::wrapping_add_u64;
+use makers::plain::promised;
 use words::minus;
 use words::plus;
-
-// The size up to which each single move of the published table is promised.
-fn promised(v: usize) -> i64 {
-    match v {
-        0 => 300,
-        2 => 100,
-        _ => 200,
-    }
-}
 
 // A shift about 0 or a promised size.
 fn small_shift(size: i64, way: usize) -> i64 {
@@ -67,13 +57,8 @@ pub fn shift(t: &[i64; TABLE], k: usize, count: &mut u64) {
     try_move(&bare(PUBLISHED_LIMITS), v, shift, count);
 }
 
-// The last shift that is accepted and the first that is not, up and down.
 pub fn border(t: &[i64; TABLE], k: usize, count: &mut u64) {
-    let v = k / 2 % VARIABLES;
-    let is_down = k % 2 == 1;
-    let size = last_accepted(t, v, is_down);
-    try_move(t, v, with_sign(is_down, size), count);
-    try_move(t, v, with_sign(is_down, wrapping_add_u64(size, 1)), count);
+    moves_at_border(t, k / 2 % VARIABLES, k % 2 == 1, count);
 }
 
 // Moves of a variable that there is not.

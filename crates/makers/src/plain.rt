@@ -32,6 +32,15 @@ pub fn published() -> [i64; TABLE] {
     t
 }
 
+// The size up to which each single move of the published table is promised.
+pub fn promised(v: usize) -> i64 {
+    match v {
+        0 => 300,
+        2 => 100,
+        _ => 200,
+    }
+}
+
 // A state with one reading replaced.
 pub fn with_reading(state: [i64; VARIABLES], variable: usize, x: i64) -> [i64; VARIABLES]
     requires { ⌜ variable < 5 ⌝ }
