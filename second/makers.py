@@ -294,7 +294,7 @@ def inside_float(gen, lo, hi):
     half = bits_of_ratio(2 * gen.take(lo, hi - 1) + 1, 2)
     if way == 2:
         return half
-    return half + gen.take(-1, 1)               # a neighbour, or the half itself
+    return half + gen.take(-1, 1)           # a neighbour, or the half itself
 
 
 def inside_float_state(gen, table):
