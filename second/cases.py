@@ -8,8 +8,8 @@ import book as lines
 import tables
 from book import I64_MAX, I64_MIN, MASK
 from makers import (
-    NARROW_LIMITS, PROMISED_SIZES, X_CONSTANT, X_LOW_AAA, ZEROS, last_accepted,
-    with_place, with_reading, zero_table,
+    NARROW_LIMITS, PROMISED_SIZES, TABLE_LENGTHS, X_CONSTANT, X_LOW_AAA, ZEROS,
+    last_accepted, of_length, with_place, with_reading, zero_table,
 )
 from model import FIRST_BLOCK, PUBLISHED_TABLE
 from tables import HIGHEST, LOWEST, WEIGHT_CAP
@@ -18,7 +18,7 @@ ODD_VARIABLES = (5, 6, 1 << 32, (1 << 32) + 1, 1 << 63, MASK)
 
 
 def publish_section(book, _):
-    for length in (311, 0, 1, 6, 310, 312, 622):
+    for length in TABLE_LENGTHS:
         book.publish(length)
     for index in range(311):
         book.place(PUBLISHED_TABLE, index)
@@ -97,21 +97,17 @@ def published_moves_section(book, _):
             book.move(t, v, shift)
 
 
-TABLE_LENGTHS = (0, 1, 6, 10, 11, 60, 61, 310, 311, 312, 622)
-OUTPUT_LENGTHS = (0, 1, 5, 6, 7, 310, 311, 312, 622)
+OUTPUT_LENGTHS = (6, 5, 7) + TABLE_LENGTHS
 
 
 def lengths_section(book, _):
-    def table_of(length):
-        return [PUBLISHED_TABLE[i] if i < 311 else 0 for i in range(length)]
-
     for length in TABLE_LENGTHS:
         for output_length in OUTPUT_LENGTHS:
-            book.read(table_of(length), ZEROS, output_length)
+            book.read(of_length(length), ZEROS, output_length)
     variable = 4                            # by turns the last one and none
     for length in TABLE_LENGTHS:
         for output_length in OUTPUT_LENGTHS:
-            book.move(table_of(length), variable, 5, output_length)
+            book.move(of_length(length), variable, 5, output_length)
             variable = 9 - variable
 
 

@@ -45,6 +45,15 @@ def published_moved_section(book, gen):
         move_and_use(book, gen, PUBLISHED_TABLE, v, gen.take(-bound, bound))
 
 
+def two_moves(book, t, v, shift, w, other):
+    """Two moves after each other; the second in the first's variable too, and back."""
+    number, once = book.move(t, v, shift)
+    if number == 0:
+        book.move(once, v, -shift)
+        book.move(once, v, other)
+        book.move(once, w, other)
+
+
 def chains_section(book, gen):
     """Moves on top of moves; a refused one leaves the chain where it was."""
     for _ in range(12):
@@ -58,15 +67,9 @@ def chains_section(book, gen):
         w = gen.take(0, 4)
         other = gen.take(-60, 60)
         # there and back, in two steps and in one, in either order
-        number, once = book.move(t, v, shift)
-        if number == 0:
-            book.move(once, v, -shift)
-            book.move(once, v, other)
-            book.move(once, w, other)
+        two_moves(book, t, v, shift, w, other)
         book.move(t, v, shift + other)
-        number, once = book.move(t, w, other)
-        if number == 0:
-            book.move(once, v, shift)
+        two_moves(book, t, w, other, v, shift)
 
 
 def bad_limits_section(book, gen):
@@ -100,11 +103,11 @@ def random_section(book, gen):
         book.move(t, v, sign * (size + 1))
 
 
-def read_about(book, gen, t, place, size):
-    """The number at a place has a size, and one more."""
-    for number in (size, size + 1):
-        about = with_place(t, place, of_sign(gen, number))
-        book.read(about, inside_state(gen, about))
+def read_with(book, gen, t, place, size):
+    """Read the table with a number of the given size at a place; give it back."""
+    changed = with_place(t, place, of_sign(gen, size))
+    book.read(changed, inside_state(gen, changed))
+    return changed
 
 
 def full_section(book, gen):
@@ -114,12 +117,12 @@ def full_section(book, gen):
         t = zero_table(limits)
         place = FIRST_BLOCK + k
         size = full_number(limits, place)
-        read_about(book, gen, t, place, size)
-        lone = with_place(t, place, of_sign(gen, size))
+        read_with(book, gen, t, place, size + 1)
+        lone = read_with(book, gen, t, place, size)
         filling = filling_place(place)
         rest = rest_of_cap(limits, place)
-        read_about(book, gen, lone, filling, rest)
-        full = with_place(lone, filling, of_sign(gen, rest))
+        read_with(book, gen, lone, filling, rest + 1)
+        full = read_with(book, gen, lone, filling, rest)
         v = gen.take(0, 4)
         book.move(full, v, 0)
         book.move(full, v, gen.take(-3, 3))
@@ -135,11 +138,9 @@ def each_block_section(book, gen):
         t = one_in_each_block(gen, limits, k % 3)
         use_table(book, gen, t)
         v = gen.take(0, 4)
-        shift = gen.take(-3, 3)
-        book.move(t, v, shift)
+        book.move(t, v, gen.take(-3, 3))
         place = FIRST_BLOCK + gen.take(0, 299)
-        heavy = with_place(t, place, of_sign(gen, full_number(limits, place) + 1))
-        book.read(heavy, inside_state(gen, heavy))
+        read_with(book, gen, t, place, full_number(limits, place) + 1)
 
 
 SECTIONS = (

@@ -10,8 +10,9 @@ from fractions import Fraction
 import book as lines
 from door import INFINITY_BITS, nearest_bits
 from makers import (
-    SPECIAL_BITS, bits_of_ratio, damaged, good_limits, inside_float_state,
-    nudged, one_in_each_block, random_table, spoil_limits,
+    SPECIAL_BITS, TABLE_LENGTHS, bits_of_ratio, damaged, good_limits,
+    inside_float_state, nudged, of_length, one_in_each_block, random_table,
+    spoil_limits,
 )
 from model import PUBLISHED_TABLE
 from tables import ALPHA_CUT, HIGHEST, LOWEST
@@ -63,10 +64,9 @@ def order_section(book, _):
 
 
 def lengths_section(book, _):
-    for length in (0, 1, 11, 310, 311, 312, 622):
-        t = [PUBLISHED_TABLE[i] if i < 311 else 0 for i in range(length)]
+    for length in TABLE_LENGTHS:
         for pattern in (bits_of_ratio(1, 4), INFINITY_BITS):
-            book.float(t, with_pattern(1, pattern))
+            book.float(of_length(length), with_pattern(1, pattern))
 
 
 def use_table(book, gen, t):

@@ -6,8 +6,8 @@ import door
 import tables
 from book import I64_MAX, I64_MIN, signed
 from model import (
-    BLOCK_LENGTH, FIRST_BLOCK, GROUPS, HIGH_GROUP, LOW_GROUP, TABLE_LENGTH,
-    XI_GROUP, ZETA_GROUP, place_of,
+    BLOCK_LENGTH, FIRST_BLOCK, GROUPS, HIGH_GROUP, LOW_GROUP, PUBLISHED_TABLE,
+    TABLE_LENGTH, XI_GROUP, ZETA_GROUP, place_of,
 )
 from tables import HIGHEST, LOWEST, WEIGHT_CAP
 
@@ -15,6 +15,8 @@ ZEROS = [0, 0, 0, 0, 0]
 NARROW_LIMITS = (-100, 0, 1, 0, 0, 0, 0, 0, 0, 0, 0)
 X_CONSTANT = FIRST_BLOCK
 X_LOW_AAA = place_of(0, 0, (3, 0))          # place 17
+# the length of a table, and others about it and about those of its parts
+TABLE_LENGTHS = (311, 0, 1, 6, 10, 11, 61, 310, 312, 622)
 # sizes up to which each single move of the published table is accepted
 PROMISED_SIZES = (300, 200, 100, 200, 200)
 
@@ -31,6 +33,11 @@ def with_place(table, place, value):
     changed = list(table)
     changed[place] = value
     return changed
+
+
+def of_length(length):
+    """The published table, cut short or with zeros behind it."""
+    return [PUBLISHED_TABLE[i] if i < TABLE_LENGTH else 0 for i in range(length)]
 
 
 def zero_table(limits):

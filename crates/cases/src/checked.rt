@@ -7,18 +7,19 @@ use book::usual::read;
 use book::usual::try_move;
 use layout::LIMITS;
 use layout::TABLE;
-use layout::VARIABLES;
 use makers::plain::LONG;
 use makers::plain::NARROW_LIMITS;
 use makers::plain::PUBLISHED_LIMITS;
 use makers::plain::ZEROS;
 use makers::plain::bare;
+use makers::plain::table_length;
 use makers::plain::with_place;
 use makers::plain::with_reading;
-use makers::terms::CAP;
+use weighted::terms::CAP;
 use words::minus;
 use words::signed;
 
+// Into the first places of an output.
 fn publish_into(room: &mut [i64], end: usize, count: &mut u64)
     requires { ⌜ end ≤ length (now room) ⌝ }
 {
@@ -26,24 +27,9 @@ fn publish_into(room: &mut [i64], end: usize, count: &mut u64)
     publish_case(&mut room[from..end], count);
 }
 
-// The right length of an output, and others.
-fn output_length(k: usize) -> usize
-    ensures { λ r. ⌜ r ≤ 622 ⌝ }
-{
-    match k {
-        0 => TABLE,
-        1 => 0,
-        2 => 1,
-        3 => 6,
-        4 => 310,
-        5 => 312,
-        _ => LONG,
-    }
-}
-
 pub fn publish(k: usize, count: &mut u64) {
     let mut room = [0i64; LONG];
-    publish_into(&mut room, output_length(k), count);
+    publish_into(&mut room, table_length(k), count);
 }
 
 pub fn place(t: &[i64; TABLE], k: usize, count: &mut u64) {
@@ -52,24 +38,21 @@ pub fn place(t: &[i64; TABLE], k: usize, count: &mut u64) {
 }
 
 // Checked values 1 to 7.
-fn checked_state(k: usize) -> [i64; VARIABLES] {
-    match k {
-        0 => ZEROS,
-        1 => with_reading(ZEROS, 0, 100),
-        2 => with_reading(ZEROS, 0, 313),
-        3 => with_reading(ZEROS, 0, 314),
-        4 => [100, 0, 0, 100, 0],
-        5 => with_reading(ZEROS, 2, 100),
-        6 => with_reading(ZEROS, 0, 1000),
-        7 => with_reading(ZEROS, 0, 1001),
-        8 => with_reading(ZEROS, 0, -150),
-        9 => with_reading(ZEROS, 0, -151),
-        _ => [1001, 501, 0, 0, 0],
-    }
-}
-
 pub fn read_state(t: &[i64; TABLE], k: usize, count: &mut u64) {
-    read(t, checked_state(k), count);
+    let state = match k {
+        0 => ZEROS,
+        1 => [100, 0, 0, 0, 0],
+        2 => [313, 0, 0, 0, 0],
+        3 => [314, 0, 0, 0, 0],
+        4 => [100, 0, 0, 100, 0],
+        5 => [0, 0, 100, 0, 0],
+        6 => [1000, 0, 0, 0, 0],
+        7 => [1001, 0, 0, 0, 0],
+        8 => [-150, 0, 0, 0, 0],
+        9 => [-151, 0, 0, 0, 0],
+        _ => [1001, 501, 0, 0, 0],
+    };
+    read(t, state, count);
 }
 
 // Checked values 8 and 9.

@@ -14,9 +14,12 @@ pub const LEAST_BUT_ONE: i64 = -9223372036854775807;
 
 pub const MOST_BUT_ONE: i64 = 9223372036854775806;
 
-// A value at or about two limits, at or about 0, or at the ends of 64 bits.
-fn value_about(lo: i64, hi: i64, way: usize) -> i64 {
-    match way {
+// One variable after the other, with thirteen values each: at and about its limits and 0, and at the ends of 64 bits.
+pub fn reading(t: &[i64; TABLE], k: usize, count: &mut u64) {
+    let v = k / 13 % VARIABLES;
+    let lo = lowest(t, v);
+    let hi = highest(t, v);
+    let x = match k % 13 {
         0 => minus(lo, 1),
         1 => lo,
         2 => plus(lo, 1),
@@ -30,13 +33,7 @@ fn value_about(lo: i64, hi: i64, way: usize) -> i64 {
         10 => LEAST_BUT_ONE,
         11 => MOST_BUT_ONE,
         _ => i64::MAX,
-    }
-}
-
-// One variable after the other, with thirteen values each.
-pub fn reading(t: &[i64; TABLE], k: usize, count: &mut u64) {
-    let v = k / 13 % VARIABLES;
-    let x = value_about(lowest(t, v), highest(t, v), k % 13);
+    };
     read(t, with_reading(ZEROS, v, x), count);
 }
 

@@ -5,7 +5,10 @@ mod refused;
 mod shifts;
 mod single;
 
+use book::usual::moves_at_border;
 use layout::TABLE;
+use layout::VARIABLES;
+use makers::plain::NUMBERS;
 use makers::plain::published;
 
 enum Section {
@@ -46,7 +49,7 @@ fn turn(section: Section, k: usize, t: &[i64; TABLE], count: &mut u64) {
         Section::Corners => ends::corner(t, k, count),
         Section::Pairs => ends::pair(t, k, count),
         Section::Shifts => shifts::shift(t, k, count),
-        Section::Borders => shifts::border(t, k, count),
+        Section::Borders => moves_at_border(t, k / 2 % VARIABLES, k % 2 == 1, count),
         Section::NoVariable => shifts::no_variable(t, k, count),
         Section::ReadLengths => refused::read_lengths(k, count),
         Section::MoveLengths => refused::move_lengths(k, count),
@@ -66,7 +69,7 @@ fn turns(section: Section, end: usize, t: &[i64; TABLE], count: &mut u64) {
 }
 
 fn sections(t: &[i64; TABLE], count: &mut u64) {
-    turns(Section::Publish, 7, t, count);
+    turns(Section::Publish, 10, t, count);
     turns(Section::Places, TABLE, t, count);
     turns(Section::CheckedReads, 11, t, count);
     turns(Section::CheckedMoves, 3, t, count);
@@ -80,12 +83,12 @@ fn sections(t: &[i64; TABLE], count: &mut u64) {
     turns(Section::Shifts, 95, t, count);
     turns(Section::Borders, 10, t, count);
     turns(Section::NoVariable, 30, t, count);
-    turns(Section::ReadLengths, 99, t, count);
-    turns(Section::MoveLengths, 99, t, count);
+    turns(Section::ReadLengths, 130, t, count);
+    turns(Section::MoveLengths, 130, t, count);
     turns(Section::ReadOrder, 512, t, count);
     turns(Section::MoveOrder, 128, t, count);
     turns(Section::Smallest, TABLE, t, count);
-    turns(Section::Single, 300, t, count);
+    turns(Section::Single, NUMBERS, t, count);
 }
 
 fn main() {

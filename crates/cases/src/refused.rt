@@ -11,6 +11,8 @@ use makers::plain::LONG;
 use makers::plain::NARROW_LIMITS;
 use makers::plain::ZEROS;
 use makers::plain::bare;
+use makers::plain::lengthened;
+use makers::plain::table_length;
 
 // A read of the first n numbers of a table into the first m places of an output.
 fn read_part(
@@ -43,79 +45,44 @@ fn move_part(
     move_case(&t[from..n], variable, shift, &mut room[from..m], count);
 }
 
-// Publishes into the front of a longer table.
-fn publish_front(long: &mut [i64])
-    requires { ⌜ 311 ≤ length (now long) ⌝ }
-{
-    let from = 0;
-    let end = TABLE;
-    cumulus::publish(&mut long[from..end]);
-}
-
-// Lengths about those of a table's parts.
-fn table_length(k: usize) -> usize
-    ensures { λ r. ⌜ r ≤ 622 ⌝ }
-{
-    match k {
-        0 => 0,
-        1 => 1,
-        2 => 6,
-        3 => 10,
-        4 => 11,
-        5 => 60,
-        6 => 61,
-        7 => 310,
-        8 => TABLE,
-        9 => 312,
-        _ => LONG,
-    }
-}
-
-// Lengths about those of both outputs.
+// Lengths about that of a read's output.
 fn output_length(k: usize) -> usize
     ensures { λ r. ⌜ r ≤ 622 ⌝ }
 {
     match k {
-        0 => 0,
-        1 => 1,
-        2 => 5,
-        3 => BLOCKS,
-        4 => 7,
-        5 => 310,
-        6 => TABLE,
-        7 => 312,
-        _ => LONG,
+        0 => BLOCKS,
+        1 => BLOCKS - 1,
+        2 => BLOCKS + 1,
+        _ => table_length(k - 3),
     }
 }
 
-// Eleven lengths of the table, with nine of the output each.
+// Ten lengths of the table, with thirteen of the output each.
 pub fn read_lengths(k: usize, count: &mut u64) {
-    let mut long = [0i64; LONG];
-    publish_front(&mut long);
+    let long = lengthened();
     let mut room = [0i64; LONG];
     read_part(
         &long,
-        table_length(k / 9),
+        table_length(k / 13),
         ZEROS,
         &mut room,
-        output_length(k % 9),
+        output_length(k % 13),
         count,
     );
 }
 
 // The same for moves, which are of no variable by turns: both lengths are looked at before that.
 pub fn move_lengths(k: usize, count: &mut u64) {
-    let mut long = [0i64; LONG];
-    publish_front(&mut long);
+    let long = lengthened();
     let mut room = [0i64; LONG];
     let variable = 4 + k % 2;
     move_part(
         &long,
-        table_length(k / 9),
+        table_length(k / 13),
         variable,
         5,
         &mut room,
-        output_length(k % 9),
+        output_length(k % 13),
         count,
     );
 }
@@ -135,23 +102,15 @@ fn defective(limits: usize, heavy: usize, stiff: usize) -> [i64; TABLE] {
     t
 }
 
-// A reading outside the narrow limits for 1.
-fn outside(digit: usize) -> i64 {
-    if digit == 1 {
-        return 2;
-    }
-    0
-}
-
-// Reads with every mixture of defects; the binary digits of k choose.
+// Reads with every mixture of defects; the binary digits of k choose. A reading of 2 is outside the narrow limits.
 pub fn read_order(k: usize, count: &mut u64) {
     let t = defective(k / 4 % 2, k / 8 % 2, 0);
     let mut room = [0i64; LONG];
-    let alpha = outside(k / 16 % 2);
-    let beta = outside(k / 32 % 2);
-    let xi = outside(k / 64 % 2);
-    let eta = outside(k / 128 % 2);
-    let zeta = outside(k / 256 % 2);
+    let alpha = (k / 16 % 2 * 2) as i64;
+    let beta = (k / 32 % 2 * 2) as i64;
+    let xi = (k / 64 % 2 * 2) as i64;
+    let eta = (k / 128 % 2 * 2) as i64;
+    let zeta = (k / 256 % 2 * 2) as i64;
     let state = [alpha, beta, xi, eta, zeta];
     read_part(
         &t,
@@ -163,20 +122,12 @@ pub fn read_order(k: usize, count: &mut u64) {
     );
 }
 
-// A shift that takes a limit out of its range for 1.
-fn order_shift(digit: usize) -> i64 {
-    if digit == 1 {
-        return 3000;
-    }
-    100
-}
-
-// Moves with every mixture of defects.
+// Moves with every mixture of defects. A shift by 3000 takes a limit out of its range.
 pub fn move_order(k: usize, count: &mut u64) {
     let t = defective(k / 8 % 2, k / 16 % 2, k / 64 % 2);
     let mut room = [0i64; LONG];
-    let variable = k / 4 % 2 * 5;
-    let shift = order_shift(k / 32 % 2);
+    let variable = k / 4 % 2 * VARIABLES;
+    let shift = if k / 32 % 2 == 1 { 3000 } else { 100 };
     move_part(
         &t,
         TABLE - k % 2,

@@ -1,12 +1,11 @@
 // Tables with a single number, at every place. Each function runs the k-th case of its list.
 use book::usual::read;
 use book::usual::try_move;
-use layout::BLOCK;
-use layout::BLOCKS;
 use layout::LIMITS;
 use layout::TABLE;
 use layout::VARIABLES;
 use makers::plain::NARROW_LIMITS;
+use makers::plain::NUMBERS;
 use makers::plain::ZEROS;
 use makers::plain::bare;
 use makers::plain::with_place;
@@ -21,7 +20,7 @@ pub fn smallest(k: usize, count: &mut u64) {
 
 // One stored number at a time, read in either piece and moved.
 pub fn single(k: usize, count: &mut u64) {
-    let place = LIMITS + k % (BLOCKS * BLOCK);
+    let place = LIMITS + k % NUMBERS;
     let t = with_place(bare(UNEVEN_LIMITS), place, 1_000_003);
     read(&t, [2, 3, -5, 7, -4], count);
     read(&t, [3, -3, 5, -6, 8], count);

@@ -6,6 +6,7 @@ mod spoilt;
 mod uses;
 
 use layout::TABLE;
+use makers::plain::NUMBERS;
 use makers::plain::published;
 use words::seeded;
 
@@ -50,7 +51,7 @@ fn sections(t: &[i64; TABLE], count: &mut u64) {
     turns(Section::BadLimits, 4, 75, t, count);
     turns(Section::Damaged, 5, 150, t, count);
     turns(Section::Random, 6, 120, t, count);
-    turns(Section::Full, 7, 300, t, count);
+    turns(Section::Full, 7, NUMBERS, t, count);
     turns(Section::EachBlock, 8, 90, t, count);
 }
 

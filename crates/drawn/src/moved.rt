@@ -9,14 +9,14 @@ use layout::TABLE;
 use layout::VARIABLES;
 use layout::refusals::DONE;
 use makers::plain::promised;
-use makers::random::random_table;
+use weighted::random::random_table;
 use words::below;
 use words::minus;
 use words::plus;
 use words::take;
 
 // A move whose table is used if it is accepted.
-fn move_within(draws: &mut u64, t: &[i64; TABLE], v: usize, size: i64, count: &mut u64)
+pub fn move_within(draws: &mut u64, t: &[i64; TABLE], v: usize, size: i64, count: &mut u64)
     requires { ⌜ v < 5 ⌝ }
 {
     let shift = take(draws, minus(0, size), size);
@@ -47,22 +47,25 @@ fn chain_step(draws: &mut u64, t: [i64; TABLE], count: &mut u64) -> [i64; TABLE]
     t
 }
 
-// There and back, in two steps and in one, in either order.
-fn there_and_back(draws: &mut u64, t: &[i64; TABLE], count: &mut u64) {
-    let v = below(draws, VARIABLES);
-    let shift = take(draws, -60, 60);
-    let w = below(draws, VARIABLES);
-    let other = take(draws, -60, 60);
+// Two moves after each other; the second in the variable of the first too, and back.
+fn two_moves(t: &[i64; TABLE], v: usize, shift: i64, w: usize, other: i64, count: &mut u64) {
     let mut once = [0i64; TABLE];
     if move_case(t, v, shift, &mut once, count) == DONE {
         try_move(&once, v, minus(0, shift), count);
         try_move(&once, v, other, count);
         try_move(&once, w, other, count);
     }
+}
+
+// There and back, in two steps and in one, in either order.
+fn there_and_back(draws: &mut u64, t: &[i64; TABLE], count: &mut u64) {
+    let v = below(draws, VARIABLES);
+    let shift = take(draws, -60, 60);
+    let w = below(draws, VARIABLES);
+    let other = take(draws, -60, 60);
+    two_moves(t, v, shift, w, other, count);
     try_move(t, v, plus(shift, other), count);
-    if move_case(t, w, other, &mut once, count) == DONE {
-        try_move(&once, v, shift, count);
-    }
+    two_moves(t, w, other, v, shift, count);
 }
 
 pub fn chain(draws: &mut u64, t: &[i64; TABLE], count: &mut u64) {

@@ -1,5 +1,5 @@
 // Tables with limits that are not good, and tables with one number damaged.
-use super::uses::move_and_use;
+use super::moved::move_within;
 use super::uses::use_table;
 use book::usual::try_move;
 use layout::TABLE;
@@ -23,9 +23,7 @@ fn damage(draws: &mut u64, t: &[i64; TABLE], count: &mut u64) {
     let hurt = damaged(draws, t);
     use_table(draws, &hurt, count);
     let v = below(draws, VARIABLES);
-    let shift = take(draws, -100, 100);
-    let mut out = [0i64; TABLE];
-    move_and_use(draws, &hurt, v, shift, &mut out, count);
+    move_within(draws, &hurt, v, 100, count);
 }
 
 // The table and a moved one, by turns.

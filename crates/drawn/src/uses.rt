@@ -9,6 +9,11 @@ use makers::states::inside_state;
 use makers::states::spoil_state;
 use words::minus;
 
+pub fn read_inside(draws: &mut u64, t: &[i64; TABLE], count: &mut u64) {
+    let state = inside_state(draws, t);
+    read(t, state, count);
+}
+
 // A read inside, and one with one reading spoilt.
 pub fn use_table(draws: &mut u64, t: &[i64; TABLE], count: &mut u64) {
     let state = inside_state(draws, t);

@@ -13,9 +13,10 @@ use super::patterns::with_pattern;
 use super::runs::float_case;
 use layout::TABLE;
 use layout::VARIABLES;
-use makers::plain::LONG;
 use makers::plain::highest;
+use makers::plain::lengthened;
 use makers::plain::lowest;
+use makers::plain::table_length;
 use words::minus;
 use words::plus;
 use words::signed;
@@ -98,33 +99,16 @@ pub fn order(t: &[i64; TABLE], k: usize, count: &mut u64) {
     float_case(t, [alpha, beta, xi, eta, zeta], count);
 }
 
-// Reads the first n numbers of a longer table that is published at its front.
-fn read_front(long: &mut [i64], n: usize, patterns: [u64; VARIABLES], count: &mut u64)
-    requires { ⌜ (311 ≤ length (now long)) × (n ≤ length (now long)) ⌝ }
+// Reads the first n numbers of a table.
+fn read_part(t: &[i64], n: usize, patterns: [u64; VARIABLES], count: &mut u64)
+    requires { ⌜ n ≤ length (now t) ⌝ }
 {
     let from = 0;
-    let end = TABLE;
-    cumulus::publish(&mut long[from..end]);
-    float_case(&long[from..n], patterns, count);
+    float_case(&t[from..n], patterns, count);
 }
 
-fn table_length(k: usize) -> usize
-    ensures { λ r. ⌜ r ≤ 622 ⌝ }
-{
-    match k {
-        0 => 0,
-        1 => 1,
-        2 => 11,
-        3 => 310,
-        4 => TABLE,
-        5 => 312,
-        _ => LONG,
-    }
-}
-
-// Seven lengths, each with a state inside and one that is not finite.
+// Ten lengths, each with a state inside and one that is not finite.
 pub fn length(k: usize, count: &mut u64) {
-    let mut long = [0i64; LONG];
     let state = with_pattern(ZEROS, 1, reading(k % 2 * 2));
-    read_front(&mut long, table_length(k / 2), state, count);
+    read_part(&lengthened(), table_length(k / 2), state, count);
 }

@@ -54,7 +54,7 @@ fn sections(t: &[i64; TABLE], count: &mut u64) {
     turns(Section::Special, 2, 230, t, count);
     turns(Section::AboutLimits, 3, 180, t, count);
     turns(Section::Order, 4, 243, t, count);
-    turns(Section::Lengths, 5, 14, t, count);
+    turns(Section::Lengths, 5, 20, t, count);
     turns(Section::Published, 6, 250, t, count);
     turns(Section::Moved, 7, 100, t, count);
     turns(Section::Random, 8, 100, t, count);

@@ -1,7 +1,4 @@
-// Tables and states for cases: plain ones, drawn ones, and ones that lie at a border.
-pub mod borders;
+// Tables and states for cases: plain ones, drawn states, and drawn changes of a table.
 pub mod changed;
 pub mod plain;
-pub mod random;
 pub mod states;
-pub mod terms;

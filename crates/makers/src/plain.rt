@@ -1,11 +1,17 @@
 // The limits that a table holds, states and tables with one number replaced, and tables with no numbers but limits.
-ghost use Prim.Native.Nat.{_<_};
+ghost use Prim.Native.Nat.{_≤_, _<_};
+ghost use lib.ListN.{length};
+use layout::BLOCK;
+use layout::BLOCKS;
 use layout::LIMITS;
 use layout::TABLE;
 use layout::VARIABLES;
 
+// How many numbers a table has beside its limits.
+pub const NUMBERS: usize = TABLE - LIMITS;
+
 // The length of tables and outputs that are too long.
-pub const LONG: usize = 622;
+pub const LONG: usize = 2 * TABLE;
 
 pub const PUBLISHED_LIMITS: [i64; LIMITS] = [
     -150,
@@ -30,6 +36,39 @@ pub fn published() -> [i64; TABLE] {
     let mut t = [0i64; TABLE];
     cumulus::publish(&mut t);
     t
+}
+
+fn publish_front(long: &mut [i64])
+    requires { ⌜ 311 ≤ length (now long) ⌝ }
+{
+    let from = 0;
+    let end = TABLE;
+    cumulus::publish(&mut long[from..end]);
+}
+
+// The published table with zeros behind it.
+pub fn lengthened() -> [i64; LONG] {
+    let mut long = [0i64; LONG];
+    publish_front(&mut long);
+    long
+}
+
+// The length of a table, and others about it and about those of its parts.
+pub fn table_length(k: usize) -> usize
+    ensures { λ r. ⌜ r ≤ 622 ⌝ }
+{
+    match k {
+        0 => TABLE,
+        1 => 0,
+        2 => 1,
+        3 => BLOCKS,
+        4 => LIMITS - 1,
+        5 => LIMITS,
+        6 => LIMITS + BLOCK,
+        7 => TABLE - 1,
+        8 => TABLE + 1,
+        _ => LONG,
+    }
 }
 
 // The size up to which each single move of the published table is promised.

@@ -1,13 +1,13 @@
 // What the number at a place of a table weighs, and how large it may be within a weight.
 ghost use Prim.Native.Nat.{_≤_, _<_};
-use super::plain::highest;
-use super::plain::lowest;
 use layout::BLOCK;
 use layout::LIMITS;
 use layout::PITCH;
 use layout::TABLE;
 use layout::XI_START;
 use layout::ZETA_START;
+use makers::plain::highest;
+use makers::plain::lowest;
 use words::plus;
 use words::times;
 

@@ -1,9 +1,9 @@
--- `makers::borders::one_in_each_block` meets its contract: each turn goes on to the next block's start. Assumes nothing.
+-- `weighted::borders::one_in_each_block` meets its contract: each turn goes on to the next block's start. Assumes nothing.
 use Prim.Native.Nat.{_≤_, _<_, _-_, _%_}
 use mathlib.Core.Path.{_≡_}
 use borrow.Author.Needs.{needs}
-use Rattle.makers.proofs.borders.one_in_each_block.Statement.{statement}
-use Rattle.makers.proofs.borders.one_in_each_block.Tie as tie
+use Rattle.weighted.proofs.borders.one_in_each_block.Statement.{statement}
+use Rattle.weighted.proofs.borders.one_in_each_block.Tie as tie
 
 abbrev Inv-loop : tie.InvT-loop
 Inv-loop draws₀ way t₀ same start₀ draws t start = (11 ≤ start) × (start ≤ 311) × (start % 50 ≡ 11) × (same < 50)

@@ -1,8 +1,8 @@
--- `makers::random::random_table` meets its contract: the loop counts up to its end. Assumes nothing.
+-- `weighted::random::random_table` meets its contract: the loop counts up to its end. Assumes nothing.
 use Prim.Native.Nat.{_≤_, _-_}
 use borrow.Author.Needs.{needs}
-use Rattle.makers.proofs.random.random_table.Statement.{statement}
-use Rattle.makers.proofs.random.random_table.Tie as tie
+use Rattle.weighted.proofs.random.random_table.Statement.{statement}
+use Rattle.weighted.proofs.random.random_table.Tie as tie
 
 abbrev Inv-loop : tie.InvT-loop
 Inv-loop draws₀ t₀ weight density place₀ draws t place = (11 ≤ place) × (place ≤ 311)

@@ -1,6 +1,5 @@
 // The largest move that a table takes, and tables whose weight is just the cap.
 ghost use Prim.Native.Nat.{_≤_, _<_};
-use super::plain::bare;
 use super::terms::CAP;
 use super::terms::largest_within;
 use super::terms::term_at;
@@ -11,6 +10,7 @@ use layout::TABLE;
 use layout::XI_START;
 use layout::ZETA_START;
 use layout::refusals::DONE;
+use makers::plain::bare;
 use std::num::wrapping_sub_u64;
 use words::below;
 use words::minus;

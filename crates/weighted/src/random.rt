@@ -1,10 +1,10 @@
 // Random limits that are good, and random tables near the cap or far below it.
 ghost use Prim.Native.Nat.{_≤_, _<_};
-use super::plain::bare;
 use super::terms::largest_within;
 use super::terms::term_at;
 use layout::LIMITS;
 use layout::TABLE;
+use makers::plain::bare;
 use words::below;
 use words::minus;
 use words::plus;
