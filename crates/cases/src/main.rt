@@ -68,7 +68,7 @@ fn turns(section: Section, end: usize, t: &[i64; TABLE], count: &mut u64) {
     }
 }
 
-fn sections(t: &[i64; TABLE], count: &mut u64) {
+fn checked_values(t: &[i64; TABLE], count: &mut u64) {
     turns(Section::Publish, 10, t, count);
     turns(Section::Places, TABLE, t, count);
     turns(Section::CheckedReads, 11, t, count);
@@ -76,6 +76,10 @@ fn sections(t: &[i64; TABLE], count: &mut u64) {
     turns(Section::MovedPlaces, 21, t, count);
     turns(Section::CheckedCap, 2, t, count);
     turns(Section::CheckedNarrow, 5, t, count);
+}
+
+// Readings and moves of the published table at every limit.
+fn published_table(t: &[i64; TABLE], count: &mut u64) {
     turns(Section::Readings, 65, t, count);
     turns(Section::Cut, 8, t, count);
     turns(Section::Corners, 32, t, count);
@@ -83,6 +87,10 @@ fn sections(t: &[i64; TABLE], count: &mut u64) {
     turns(Section::Shifts, 95, t, count);
     turns(Section::Borders, 10, t, count);
     turns(Section::NoVariable, 30, t, count);
+}
+
+// Wrong lengths, mixtures of defects, and tables with a single number.
+fn refusals(t: &[i64; TABLE], count: &mut u64) {
     turns(Section::ReadLengths, 130, t, count);
     turns(Section::MoveLengths, 130, t, count);
     turns(Section::ReadOrder, 512, t, count);
@@ -94,5 +102,7 @@ fn sections(t: &[i64; TABLE], count: &mut u64) {
 fn main() {
     let t = published();
     let mut count: u64 = 0;
-    sections(&t, &mut count);
+    checked_values(&t, &mut count);
+    published_table(&t, &mut count);
+    refusals(&t, &mut count);
 }

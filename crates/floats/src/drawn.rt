@@ -1,10 +1,4 @@
 // Reads with drawn floats of published, moved, random, damaged and unsound tables.
-use super::patterns::SPECIALS;
-use super::patterns::eighths;
-use super::patterns::in_eighths;
-use super::patterns::special;
-use super::patterns::with_pattern;
-use super::runs::float_case;
 use layout::TABLE;
 use layout::VARIABLES;
 use makers::changed::damaged;
@@ -12,6 +6,12 @@ use makers::changed::nudged;
 use makers::changed::spoil_limits;
 use makers::plain::highest;
 use makers::plain::lowest;
+use patterns::bits::SPECIALS;
+use patterns::bits::eighths;
+use patterns::bits::in_eighths;
+use patterns::bits::special;
+use patterns::bits::with_pattern;
+use patterns::runs::float_case;
 use weighted::borders::one_in_each_block;
 use weighted::random::good_limits;
 use weighted::random::random_table;

@@ -2,8 +2,6 @@
 // program writes the same lines.
 mod drawn;
 mod listed;
-mod patterns;
-mod runs;
 
 use layout::TABLE;
 use makers::plain::published;

@@ -1,10 +1,10 @@
--- `floats::runs::put_pattern` meets its contract: the loop counts the sixteen digits down. Assumes nothing.
+-- `patterns::runs::put_pattern` meets its contract: the loop counts the sixteen digits down. Assumes nothing.
 use Prim.Native.Nat.{_≤_, _+_}
 use mathlib.Core.Path.{_≡_}
 use lib.ListN.{length}
 use borrow.Author.Needs.{needs}
-use Rattle.floats.proofs.runs.put_pattern.Statement.{statement}
-use Rattle.floats.proofs.runs.put_pattern.Tie as tie
+use Rattle.patterns.proofs.runs.put_pattern.Statement.{statement}
+use Rattle.patterns.proofs.runs.put_pattern.Tie as tie
 
 abbrev Inv-loop : tie.InvT-loop
 Inv-loop pattern line₀ at digits from rest₀ left₀ line rest left = (left ≤ 16) × (from ≡ at + 1) × (length line ≡ length line₀)

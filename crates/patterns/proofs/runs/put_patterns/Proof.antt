@@ -1,11 +1,11 @@
--- `floats::runs::put_patterns` meets its contract: each pattern takes 17 places of the line. Assumes nothing.
+-- `patterns::runs::put_patterns` meets its contract: each pattern takes 17 places of the line. Assumes nothing.
 use mathlib.Core.Logic.{⊎-elim}
 use Prim.Native.Nat.{_≤_, _-_, _+_, _*_}
 use mathlib.Core.Path.{_≡_}
 use lib.ListN.{length}
 use borrow.Author.Needs.{needs}
-use Rattle.floats.proofs.runs.put_patterns.Statement.{statement}
-use Rattle.floats.proofs.runs.put_patterns.Tie as tie
+use Rattle.patterns.proofs.runs.put_patterns.Statement.{statement}
+use Rattle.patterns.proofs.runs.put_patterns.Tie as tie
 
 abbrev Inv-loop : tie.InvT-loop
 Inv-loop patterns line₀ at end₀ k₀ line end k = (k ≤ 6) × (end ≤ at + 17 * k) × (length line ≡ length line₀)

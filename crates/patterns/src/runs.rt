@@ -2,8 +2,8 @@
 ghost use mathlib.Core.Path.{_≡_};
 ghost use Prim.Native.Nat.{_+_, _≤_};
 ghost use lib.ListN.{length};
-use super::patterns::float_of;
-use super::patterns::pattern_of;
+use super::bits::float_of;
+use super::bits::pattern_of;
 use book::lines::ROOM;
 use book::lines::finish;
 use book::lines::put_text;
