@@ -85,16 +85,19 @@ static void values(const int64_t *t, const int64_t *x, int64_t *out) {
     }
 }
 
+uint64_t peer_sound_read(const int64_t *t, const int64_t *x, int64_t *out) {
+    for (int v = 0; v < 5; v++)
+        if (x[v] < t[lowest(v)] || x[v] > t[highest(v)]) return 11 + v;
+    values(t, x, out);
+    return 0;
+}
+
 uint64_t peer_read(const int64_t *t, size_t n, int64_t a, int64_t be, int64_t xi, int64_t e, int64_t z, int64_t *out, size_t m) {
     int64_t x[5] = {a, be, xi, e, z};
     if (n != TABLE) return 1;
     if (m != 6) return 2;
     uint64_t no = unsound(t);
-    if (no) return no;
-    for (int v = 0; v < 5; v++)
-        if (x[v] < t[lowest(v)] || x[v] > t[highest(v)]) return 11 + v;
-    values(t, x, out);
-    return 0;
+    return no ? no : peer_sound_read(t, x, out);
 }
 
 clochecloak_answer peer_read_floats(const int64_t *t, size_t n, double a, double be, double xi, double e, double z) {

@@ -1,3 +1,4 @@
 pub mod Controls
 pub mod Program
+pub mod Parts
 pub mod Spaced

@@ -5,12 +5,9 @@
 use mathlib.Core.Path.{_≡_, refl, sym, ap, ap₂, _∙_}
 use mathlib.Core.Bool.{Bool, true, false, cond}
 use mathlib.Core.List.{List, [], _∷_, _++_, append-assoc, append-nil}
-use Prim.Native.Nat.{ℕ, _+_, _<_}
-use native.Mathlib.Numerals.{add-one}
+use Prim.Native.Nat.{ℕ}
 use lib.Dec.{eqb}
 use lib.IntN.{ℤ}
-use lib.ListN.{length, take, getD}
-use lib.Seq.{take-suc}
 use Rattle.lines.specs.Line.{onto, parse}
 use Rattle.lines.specs.State.{start, stepped, stepsOf, finished}
 use Rattle.lines.proofs.Parsed.{parsed}
@@ -29,21 +26,6 @@ answers-append t r [] ys = refl
 answers-append t r (x ∷ xs) ys =
     ap (λ bs. answerAt t r x ++ bs) (answers-append t (readingAfter r x) xs ys)
     ∙ sym (append-assoc (answerAt t r x) (answersOf t (readingAfter r x) xs) (answersOf t (readingsAfter (readingAfter r x) xs) ys))
-
--- one byte more
-pub readings-more : (r : Reading) (xs : List ℕ) (i : ℕ) → i < length xs → readingAfter (readingsAfter r (take i xs)) (getD xs i 0) ≡ readingsAfter r (take (i + 1) xs)
-readings-more r xs i h =
-    sym (readings-append r (take i xs) (getD xs i 0 ∷ []))
-    ∙ ap (readingsAfter r) (sym (take-suc xs i 0 h))
-    ∙ ap (λ (j : ℕ). readingsAfter r (take j xs)) (sym (add-one i))
-
-pub answers-more : (t : List ℤ) (r : Reading) (xs : List ℕ) (i : ℕ) → i < length xs
-    → answersOf t r (take i xs) ++ answerAt t (readingsAfter r (take i xs)) (getD xs i 0) ≡ answersOf t r (take (i + 1) xs)
-answers-more t r xs i h =
-    ap (λ bs. answersOf t r (take i xs) ++ bs) (sym (append-nil (answerAt t (readingsAfter r (take i xs)) (getD xs i 0))))
-    ∙ sym (answers-append t r (take i xs) (getD xs i 0 ∷ []))
-    ∙ ap (answersOf t r) (sym (take-suc xs i 0 h))
-    ∙ ap (λ (j : ℕ). answersOf t r (take j xs)) (sym (add-one i))
 
 -- ════ lines: bytes before the first of them
 ontoAll : List ℕ → List (List ℕ) → List (List ℕ)

@@ -1,7 +1,7 @@
 -- What the program writes for what it reads: bytes in, bytes out.
 use mathlib.Core.Bool.{cond}
 use mathlib.Core.List.{List, [], _∷_, _++_}
-use Prim.Native.Nat.{ℕ}
+use Prim.Native.Nat.{ℕ, _+_, _*_}
 use lib.Dec.{eqb}
 use lib.IntN.{ℤ, pos}
 use lib.ListN.{replicate}
@@ -22,6 +22,16 @@ spaced (x ∷ xs) = (32 ∷ spell x) ++ spaced xs
 -- the number given back, the coefficients, and a newline
 abbrev pub numbered : ℕ → List ℤ → List ℕ
 numbered number values = decimal number ++ spaced values ++ 10 ∷ []
+
+-- how many bytes a number takes at most, the coefficients each behind a space, and a whole answer with its newline
+abbrev pub longestNumber : ℕ
+longestNumber = 20
+
+abbrev pub longestValues : ℕ
+longestValues = 6 * (1 + longestNumber)
+
+abbrev pub longest : ℕ
+longest = longestNumber + longestValues + 1
 
 -- the coefficients where none are read
 abbrev pub zeros : List ℤ

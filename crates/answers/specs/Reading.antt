@@ -2,15 +2,18 @@
 use mathlib.Core.Path.{_≡_}
 use mathlib.Core.Bool.{true, false, cond}
 use mathlib.Core.List.{List, [], _∷_, _++_}
-use Prim.Native.Nat.{ℕ, _+_, _<_, _≤_}
+use Prim.Native.Nat.{ℕ, _+_, _-_, _<_, _≤_}
 use lib.Dec.{eqb}
 use lib.IntN.{ℤ}
-use lib.ListN.{length, take}
-use Rattle.lines.specs.State.{start, stepped, finished}
+use lib.ListN.{length, take, drop, getD}
+use Rattle.lines.specs.State.{start, stepped, stepsOf, finished}
+use Rattle.lines.specs.declared.State.{State}
+use Rattle.tables.specs.Ready.{tableNumber}
 use Rattle.printing.specs.Spell.{written}
-use Rattle.answers.specs.Answers.{answerOf}
+use Rattle.answers.specs.Answers.{answerOf, longest}
 use Rattle.answers.specs.declared.Reading.{Reading}
 use Rattle.answers.specs.declared.Fed.{Fed}
+use Rattle.answers.specs.declared.Part.{Part}
 
 abbrev pub fresh : Reading
 fresh = record { line = start; begun = false }
@@ -34,6 +37,39 @@ answersOf t r (b ∷ bs) = answerAt t r b ++ answersOf t (readingAfter r b) bs
 abbrev pub lastAnswer : List ℤ → Reading → List ℕ
 lastAnswer t r = cond (r .begun) (answerOf t (finished (r .line))) []
 
+-- ════ a part of the input: from a place on up to another
+abbrev pub part : List ℕ → ℕ → ℕ → List ℕ
+part input from end = take (end - from) (drop from input)
+
+-- none of the bytes is a newline
+abbrev pub Plain : List ℕ → Type 0
+Plain [] = Unit {0}
+Plain (b ∷ bs) = (b ≡ 10 → ⊥) × Plain bs
+
+-- the line goes on for as long as no newline comes
+pub record LinePart (s : State) (input : List ℕ) (from : ℕ) (p : Part) : Type 0 where
+  pub forward : from ≤ p .end
+  pub within : p .end ≤ length input
+  pub line : p .line ≡ stepsOf s (part input from (p .end))
+  pub plain : Plain (part input from (p .end))
+  pub newline : p .end < length input → getD input (p .end) 0 ≡ 10
+
+-- to take a part that has a byte: the table's own refusal, and room for an answer
+pub record Taking (t : List ℤ) (refused : ℕ) (input : List ℕ) (from : ℕ) (out : List ℕ) (at : ℕ) : Type 0 where
+  pub known : refused ≡ tableNumber t
+  pub byte : from < length input
+  pub room : at + longest ≤ length out
+
+-- what is known after the part, and its answer, which nothing comes before
+pub record Taken (t : List ℤ) (r : Reading) (input : List ℕ) (from : ℕ) (out out′ : List ℕ) (at : ℕ) (f : Fed) : Type 0 where
+  pub forward : from < f .taken
+  pub within : f .taken ≤ length input
+  pub reading : f .reading ≡ readingsAfter r (part input from (f .taken))
+  pub place : f .put ≡ at + length (answersOf t r (part input from (f .taken)))
+  pub output : out′ ≡ written out at (answersOf t r (part input from (f .taken)))
+  pub room : f .put ≤ at + longest
+  pub silent : (i : ℕ) → from ≤ i → i < f .taken → answersOf t r (part input from i) ≡ []
+
 -- ════ a piece of the input: `out` is the output before, `out′` the output afterwards
 pub record Feeding (t : List ℤ) (r : Reading) (input out out′ : List ℕ) (f : Fed) : Type 0 where
   pub within : f .taken ≤ length input
@@ -42,5 +78,5 @@ pub record Feeding (t : List ℤ) (r : Reading) (input out out′ : List ℕ) (f
   pub output : out′ ≡ written out 0 (answersOf t r (take (f .taken) input))
   pub room : f .put ≤ length out
   -- before each byte that is taken there is room for an answer, and there is none where a byte is left
-  pub roomy : (i : ℕ) → i < f .taken → length (answersOf t r (take i input)) + 147 ≤ length out
-  pub full : f .taken < length input → length out < f .put + 147
+  pub roomy : (i : ℕ) → i < f .taken → length (answersOf t r (take i input)) + longest ≤ length out
+  pub full : f .taken < length input → length out < f .put + longest

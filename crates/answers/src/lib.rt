@@ -3,13 +3,15 @@ ghost use mathlib.Core.Path.{_≡_};
 ghost use Prim.Native.Nat.{_+_, _≤_};
 ghost use lib.ListN.{length};
 ghost use Rattle.printing.specs.Spell.{written};
-ghost use Rattle.answers.specs.Answers.{spaced, numbered, answerOf};
-ghost use Rattle.answers.specs.Reading.{fresh, readingAfter, answerAt, lastAnswer, Feeding};
+ghost use Rattle.answers.specs.Answers.{spaced, numbered, answerOf, longestValues, longest};
+ghost use Rattle.tables.specs.Ready.{tableNumber};
+ghost use Rattle.answers.specs.Reading.{fresh, lastAnswer, Feeding, LinePart, Taking, Taken};
 use lines::Line;
 use lines::State;
 use printing::put_digits;
 use printing::put_number;
-use tables::reading::read;
+use tables::reading::read_known;
+use tables::soundness::refusal_of;
 
 // The longest answer: seven numbers of 20 bytes, a space before all but the first, and the newline.
 pub const LONGEST: usize = 147;
@@ -23,10 +25,10 @@ pub struct Reading {
     pub begun: bool,
 }
 
-// The reading after a byte, and the place behind what was written.
-pub struct Turn {
-    pub reading: Reading,
-    pub put: usize,
+// The line after some bytes of the input that are no newline, and the place behind them.
+pub struct Part {
+    pub line: State,
+    pub end: usize,
 }
 
 // The reading after the first `taken` bytes of a piece, and how many bytes of the output hold their answers.
@@ -38,10 +40,10 @@ pub struct Fed {
 
 // Six coefficients, each behind a space, from the place `at` on; gives the place behind them.
 fn put_values(values: [i64; 6], out: &mut [u8], at: usize) -> usize
-    requires { ⌜ at + 126 ≤ length (now out) ⌝ }
+    requires { ⌜ at + longestValues ≤ length (now out) ⌝ }
     ensures place { λ r. ⌜ r ≡ at + length (spaced values) ⌝ }
     ensures output { λ r. ⌜ now (out .exit) ≡ written (now (out .entry)) at (spaced values) ⌝ }
-    ensures room { λ r. ⌜ r ≤ at + 126 ⌝ }
+    ensures room { λ r. ⌜ r ≤ at + longestValues ⌝ }
 {
     let mut place = at;
     let mut k: usize = 0;
@@ -55,10 +57,10 @@ fn put_values(values: [i64; 6], out: &mut [u8], at: usize) -> usize
 
 // A whole answer with its newline.
 fn put_answer(number: u64, values: [i64; 6], out: &mut [u8], at: usize) -> usize
-    requires { ⌜ at + 147 ≤ length (now out) ⌝ }
+    requires { ⌜ at + longest ≤ length (now out) ⌝ }
     ensures place { λ r. ⌜ r ≡ at + length (numbered number values) ⌝ }
     ensures output { λ r. ⌜ now (out .exit) ≡ written (now (out .entry)) at (numbered number values) ⌝ }
-    ensures room { λ r. ⌜ r ≤ at + 147 ⌝ }
+    ensures room { λ r. ⌜ r ≤ at + longest ⌝ }
 {
     let behind = put_digits(number, out, at);
     let end = put_values(values, out, behind);
@@ -66,12 +68,12 @@ fn put_answer(number: u64, values: [i64; 6], out: &mut [u8], at: usize) -> usize
     end + 1
 }
 
-// The answer of a table to a line, from the place `at` on; gives the place behind it.
-fn put_line(table: &[i64], line: Line, out: &mut [u8], at: usize) -> usize
-    requires { ⌜ at + 147 ≤ length (now out) ⌝ }
+// The answer of a table, whose own refusal is known, to a line, from the place `at` on; gives the place behind it.
+fn put_line(table: &[i64], refused: u64, line: Line, out: &mut [u8], at: usize) -> usize
+    requires { ⌜ (refused ≡ tableNumber (now table)) × (at + longest ≤ length (now out)) ⌝ }
     ensures place { λ r. ⌜ r ≡ at + length (answerOf (now (table .entry)) line) ⌝ }
     ensures output { λ r. ⌜ now (out .exit) ≡ written (now (out .entry)) at (answerOf (now (table .entry)) line) ⌝ }
-    ensures room { λ r. ⌜ r ≤ at + 147 ⌝ }
+    ensures room { λ r. ⌜ r ≤ at + longest ⌝ }
 {
     let mut values = [0i64; 6];
     match line {
@@ -83,7 +85,7 @@ fn put_line(table: &[i64], line: Line, out: &mut [u8], at: usize) -> usize
             eta,
             zeta,
         } => {
-            let number = read(table, [alpha, beta, xi, eta, zeta], &mut values);
+            let number = read_known(table, refused, [alpha, beta, xi, eta, zeta], &mut values);
             put_answer(number, values, out, at)
         }
     }
@@ -101,25 +103,54 @@ impl Reading {
     }
 }
 
-// One byte more: a newline ends the line, which is answered from the place `at` on.
-fn take_byte(table: &[i64], reading: Reading, byte: u8, out: &mut [u8], at: usize) -> Turn
-    requires { ⌜ at + 147 ≤ length (now out) ⌝ }
-    ensures reading { λ r. ⌜ r .reading ≡ readingAfter reading byte ⌝ }
-    ensures place { λ r. ⌜ r .put ≡ at + length (answerAt (now (table .entry)) reading byte) ⌝ }
-    ensures output { λ r. ⌜ now (out .exit) ≡ written (now (out .entry)) at (answerAt (now (table .entry)) reading byte) ⌝ }
-    ensures room { λ r. ⌜ r .put ≤ at + 147 ⌝ }
+// The line after the bytes from the place `from` up to the next newline, or up to the end of the input.
+fn step_line(line: State, input: &[u8], from: usize) -> Part
+    requires { ⌜ from ≤ length (now input) ⌝ }
+    ensures { λ r. ⌜ LinePart line (now (input .entry)) from r ⌝ }
 {
-    let line = reading.line;
-    if byte == b'\n' {
-        let put = put_line(table, line.finish(), out, at);
-        let next = Reading::fresh();
-        return Turn { reading: next, put };
+    let mut state = line;
+    let mut end = from;
+    while end < input.len() {
+        let byte = input[end];
+        if byte == b'\n' {
+            return Part { line: state, end };
+        }
+        state = state.step(byte);
+        end += 1;
     }
-    let line = line.step(byte);
-    let next = Reading { line, begun: true };
-    Turn {
+    Part { line: state, end }
+}
+
+// Takes the input from the place `from` on up to the end of a line, which is answered from the place `at` on, or up to its own end.
+fn take_line(
+    table: &[i64],
+    refused: u64,
+    reading: Reading,
+    input: &[u8],
+    from: usize,
+    out: &mut [u8],
+    at: usize,
+) -> Fed
+    requires { ⌜ Taking (now table) refused (now input) from (now out) at ⌝ }
+    ensures { λ r. ⌜ Taken (now (table .entry)) reading (now (input .entry)) from (now (out .entry)) (now (out .exit)) at r ⌝ }
+{
+    let part = step_line(reading.line, input, from);
+    let line = part.line;
+    let end = part.end;
+    if end >= input.len() {
+        let next = Reading { line, begun: true };
+        return Fed {
+            reading: next,
+            taken: end,
+            put: at,
+        };
+    }
+    let put = put_line(table, refused, line.finish(), out, at);
+    let next = Reading::fresh();
+    Fed {
         reading: next,
-        put: at,
+        taken: end + 1,
+        put,
     }
 }
 
@@ -127,6 +158,7 @@ fn take_byte(table: &[i64], reading: Reading, byte: u8, out: &mut [u8], at: usiz
 pub fn feed(table: &[i64], reading: Reading, input: &[u8], out: &mut [u8]) -> Fed
     ensures { λ r. ⌜ Feeding (now (table .entry)) reading (now (input .entry)) (now (out .entry)) (now (out .exit)) r ⌝ }
 {
+    let refused = refusal_of(table);
     let mut current = reading;
     let mut taken: usize = 0;
     let mut put: usize = 0;
@@ -138,10 +170,10 @@ pub fn feed(table: &[i64], reading: Reading, input: &[u8], out: &mut [u8]) -> Fe
                 put,
             };
         }
-        let turn = take_byte(table, current, input[taken], out, put);
-        current = turn.reading;
-        put = turn.put;
-        taken += 1;
+        let fed = take_line(table, refused, current, input, taken, out, put);
+        current = fed.reading;
+        taken = fed.taken;
+        put = fed.put;
     }
     Fed {
         reading: current,
@@ -152,14 +184,14 @@ pub fn feed(table: &[i64], reading: Reading, input: &[u8], out: &mut [u8]) -> Fe
 
 // At the end of the input: the answer to a last line that no newline ends, from the place `at` on; gives the place behind it.
 pub fn finish(table: &[i64], reading: Reading, out: &mut [u8], at: usize) -> usize
-    requires { ⌜ at + 147 ≤ length (now out) ⌝ }
+    requires { ⌜ at + longest ≤ length (now out) ⌝ }
     ensures place { λ r. ⌜ r ≡ at + length (lastAnswer (now (table .entry)) reading) ⌝ }
     ensures output { λ r. ⌜ now (out .exit) ≡ written (now (out .entry)) at (lastAnswer (now (table .entry)) reading) ⌝ }
-    ensures room { λ r. ⌜ r ≤ at + 147 ⌝ }
+    ensures room { λ r. ⌜ r ≤ at + longest ⌝ }
 {
     let line = reading.line;
     if reading.begun {
-        return put_line(table, line.finish(), out, at);
+        return put_line(table, refusal_of(table), line.finish(), out, at);
     }
     at
 }

@@ -7,11 +7,12 @@ use Prim.Native.Nat.{ℕ, _+_}
 use lib.IntN.{ℤ, pos, negℤ, pow, one}
 use lib.ListN.{replicate}
 use Rattle.polynomials.specs.Sum.{sum, listed}
-use Rattle.polynomials.specs.Order.{powers, below}
+use Rattle.polynomials.specs.Order.{powers, below, size}
 use Rattle.polynomials.specs.Binomial.{choose}
 use Rattle.polynomials.specs.Group.{number, term, evaluated, given, movedNumber, replaced}
 use Rattle.polynomials.specs.Groups.{total, totalWeight, movedGroup, longer}
-use Rattle.layout.specs.Shape.{Kind, Shape, limitsLength, lowestPlace, highestPlace, kindsLength, blockStart, tableLength, cumulus}
+use Rattle.layout.specs.Shape.{Kind, Shape, limitsLength, lowestPlace, highestPlace, kindsLength, blockLength, blockStart, tableLength, cumulus}
+use Rattle.layout.specs.Numbers.{limits, block, pitch, side, xiStart, zetaStart}
 use Rattle.layout.specs.Limits.{every, allInRange, good}
 use Rattle.layout.specs.Blocks.{low, high, groups, numbers, chosen, coefficient}
 use Rattle.layout.specs.Sound.{reach, withinCap, sound}
@@ -23,6 +24,10 @@ use Rattle.layout.specs.Moving.{owner, joined, movedLimit, movedLimits, 
 lengths : limitsLength cumulus ∷ tableLength cumulus ∷ [] ≡ 11 ∷ 311 ∷ []
 unfolding kindsLength below
 lengths = refl
+
+named : limits ∷ block ∷ pitch ∷ side ∷ xiStart ∷ (zetaStart + side) ∷ [] ≡ limitsLength cumulus ∷ blockLength cumulus ∷ size 3 ∷ size 4 ∷ (size 3 + size 3) ∷ blockLength cumulus ∷ []
+unfolding kindsLength below
+named = refl
 
 starts : map (blockStart cumulus) (0 ∷ 1 ∷ 2 ∷ 3 ∷ 4 ∷ 5 ∷ []) ≡ 11 ∷ 61 ∷ 111 ∷ 161 ∷ 211 ∷ 261 ∷ []
 unfolding kindsLength below

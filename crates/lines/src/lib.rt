@@ -19,20 +19,21 @@ pub enum Line {
 pub struct State {
     // No bytes that follow make it a line of five numbers.
     pub malformed: bool,
-    // How many words have ended, and the numbers of the last four of them.
+    // How many words have ended.
     pub words: u8,
+    // The word that has not ended: its sign, how many digits it has, and their value.
+    pub negative: bool,
+    pub digits: u8,
+    pub value: u32,
+    // The numbers of the last four words that have ended.
     pub alpha: i64,
     pub beta: i64,
     pub xi: i64,
     pub eta: i64,
-    // The word that has not ended: its sign, how many digits it has, and their value.
-    pub negative: bool,
-    pub digits: u8,
-    pub value: u16,
 }
 
 // The number of a word.
-fn signed(negative: bool, value: u16) -> i64
+fn signed(negative: bool, value: u32) -> i64
     ensures { λ r. ⌜ r ≡ signed negative value ⌝ }
 {
     let plain = value as i64;
@@ -104,7 +105,7 @@ impl State {
         self
     }
 
-    // After a digit. Fewer than four digits have a value below 1000; the test keeps a state that no line leads to from passing 16 bits.
+    // After a digit. Fewer than four digits have a value below 1000; the test keeps a state that no line leads to from passing 32 bits.
     fn digit(mut self, next: u8) -> State
         ensures { λ r. ⌜ r ≡ digit self next ⌝ }
     {
@@ -115,7 +116,7 @@ impl State {
             return self.refused();
         }
         self.digits += 1;
-        self.value = self.value * 10 + next as u16;
+        self.value = self.value * 10 + next as u32;
         self
     }
 

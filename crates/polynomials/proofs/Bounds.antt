@@ -1,4 +1,5 @@
 -- What the weight of a group bounds: its values, the numbers of the moved group, and all that is worked out on the way.
+--   sum-mono, sum-part                       a sum rises with its terms, and with their number
 --   weight-mono                              a weight rises with the reaches
 --   value-within, part-within, some-within   law 5: a value, the sum of the first terms, the sum of any of them
 --   product-within                           law 5: a number times some of its powers
@@ -28,7 +29,7 @@ use Rattle.polynomials.proofs.Listed.{getD-listed}
 use Rattle.polynomials.proofs.Moves.{evaluated-replaced, length-replaced, length-moved}
 
 -- ---- sums
-sum-mono : (n : ℕ) (f g : ℕ → ℕ) → ((k : ℕ) → k < n → f k ≤ g k) → sum nats n f ≤ sum nats n g
+pub sum-mono : (n : ℕ) (f g : ℕ → ℕ) → ((k : ℕ) → k < n → f k ≤ g k) → sum nats n f ≤ sum nats n g
 unfolding sum
 sum-mono zero f g h = N.le-refl zero
 sum-mono (suc n) f g h = omega (arith, sum-mono n f g (λ k l. h k (omega arith)), h n (omega arith))

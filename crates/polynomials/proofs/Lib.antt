@@ -22,6 +22,7 @@ pub mod Unique
 pub mod Bounds
 pub mod Together
 pub mod Cap
+pub mod Folds
 pub mod PowerRows
 pub mod Spots
 pub mod controls

@@ -6,7 +6,8 @@
 --   degree-powers                below `below n` stand total degrees below n
 --   powers-more                  what stands at the next place
 --   next-degree, next-same       the step from one place to the next, as the code takes it
-use mathlib.Core.Path.{_≡_, refl, sym, _∙_, ap}
+--   previous-degree, previous-same   and the step back
+use mathlib.Core.Path.{_≡_, refl, sym, _∙_, ap, ap₂}
 use Prim.Native.Nat.{ℕ, zero, suc, _+_, _-_, _≤_, _<_}
 use native.Mathlib.Nat as N
 use native.Mathlib.Omega.{arith}
@@ -94,3 +95,13 @@ module _ (w : Powers) where
   next-same h =
       let e : suc (w .first - 1) ≡ w .first = omega arith in
       ap (λ q. record { first = w .first - 1; second = q }) (add-one (w .second)) ∙ ap (λ p. next (record { first = p; second = w .second })) e
+
+  pub previous-degree : 1 ≤ w .first + w .second → w .second ≡ 0 → next (record { first = 0; second = w .first - 1 }) ≡ w
+  previous-degree h e =
+      let d : suc (w .first - 1) ≡ w .first = omega arith in
+      ap₂ (λ p q. record { first = p; second = q }) d (sym e)
+
+  pub previous-same : (w .second ≡ 0 → ⊥) → next (record { first = w .first + 1; second = w .second - 1 }) ≡ w
+  previous-same h =
+      let d : suc (w .second - 1) ≡ w .second = omega arith in
+      ap (λ p. next (record { first = p; second = w .second - 1 })) (add-one (w .first)) ∙ ap (λ q. record { first = w .first; second = q }) d

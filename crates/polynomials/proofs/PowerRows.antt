@@ -33,7 +33,7 @@ pub few-powers : (w : Powers) (k n : ℕ) → n ≤ size highest → k < n → w
 unfolding below
 few-powers w k n few h e = rw e (degree-powers 5 k (N.lt-of-lt-of-le h few))
 
-natAbs-one : (r : ℤ) → pos 1 ≤ℤ r → 1 ≤ natAbs r
+pub natAbs-one : (r : ℤ) → pos 1 ≤ℤ r → 1 ≤ natAbs r
 natAbs-one (pos n) h = omega (arith, le-out h)
 natAbs-one (negsuc n) h = omega arith
 

@@ -11,6 +11,8 @@ ghost use Rattle.polynomials.specs.Group.{own, value, weight, movedNumbe
 ghost use Rattle.polynomials.specs.Limits.{cap, farthest, highest, against};
 ghost use Rattle.polynomials.specs.Ready.{Readable, Weighable, Movable};
 
+pub mod gathering;
+
 // No weight may pass it: 9 x 10^18.
 pub const CAP: u64 = 9_000_000_000_000_000_000;
 
@@ -58,6 +60,25 @@ impl Powers {
         Powers {
             first: p - 1,
             second: q + 1,
+        }
+    }
+
+    // What stands at the place before.
+    pub fn previous(self) -> Powers
+        requires { ⌜ (1 ≤ self .first + self .second) × (self .first + 1 < 2 ^ 64) ⌝ }
+        ensures { λ r. ⌜ next r ≡ self ⌝ }
+    {
+        let p = self.first;
+        let q = self.second;
+        if q == 0 {
+            return Powers {
+                first: 0,
+                second: p - 1,
+            };
+        }
+        Powers {
+            first: p + 1,
+            second: q - 1,
         }
     }
 

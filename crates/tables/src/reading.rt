@@ -7,7 +7,7 @@ ghost use Rattle.polynomials.specs.Groups.{total};
 ghost use Rattle.layout.specs.Shape.{cumulus};
 ghost use Rattle.layout.specs.Blocks.{coefficient, piece as pieceOf};
 ghost use Rattle.layout.specs.Reading.{readings, readNumber, readOutput};
-ghost use Rattle.tables.specs.Ready.{AllValued};
+ghost use Rattle.tables.specs.Ready.{AllValued, SoundRead, tableNumber};
 use super::soundness::soundness;
 use blocks::coefficient_at;
 use layout::BLOCKS;
@@ -31,21 +31,12 @@ fn write_values(table: &[i64], piece: usize, state: [i64; VARIABLES], out: &mut 
     }
 }
 
-// Reads the six coefficients of a table at a state of five whole milliradians into `out`, or refuses and leaves `out` as it was.
-pub fn read(table: &[i64], state: [i64; VARIABLES], out: &mut [i64]) -> u64
+// Reads a sound table at a state, or refuses a reading and leaves `out` as it was.
+pub fn read_sound(table: &[i64], state: [i64; VARIABLES], out: &mut [i64]) -> u64
+    requires { ⌜ SoundRead (now table) (now out) ⌝ }
     ensures number { λ r. ⌜ r ≡ readNumber cumulus (now (table .entry)) (readings state) (now (out .entry)) ⌝ }
     ensures output { λ r. ⌜ now (out .exit) ≡ readOutput cumulus (now (table .entry)) (readings state) (now (out .entry)) ⌝ }
 {
-    if table.len() != TABLE {
-        return WRONG_TABLE;
-    }
-    if out.len() != BLOCKS {
-        return WRONG_OUTPUT;
-    }
-    let unsound = soundness(table);
-    if unsound != DONE {
-        return unsound;
-    }
     let limits = Limits::of(table);
     let outside = limits.outside(state);
     if outside != DONE {
@@ -57,4 +48,30 @@ pub fn read(table: &[i64], state: [i64; VARIABLES], out: &mut [i64]) -> u64
     }
     write_values(table, 1, state, out);
     DONE
+}
+
+// The same with the table's own refusal known, for a caller that reads one table often.
+pub fn read_known(table: &[i64], refused: u64, state: [i64; VARIABLES], out: &mut [i64]) -> u64
+    requires { ⌜ (refused ≡ tableNumber (now table)) × (length (now out) ≡ cumulus .blocks) ⌝ }
+    ensures number { λ r. ⌜ r ≡ readNumber cumulus (now (table .entry)) (readings state) (now (out .entry)) ⌝ }
+    ensures output { λ r. ⌜ now (out .exit) ≡ readOutput cumulus (now (table .entry)) (readings state) (now (out .entry)) ⌝ }
+{
+    if refused != DONE {
+        return refused;
+    }
+    read_sound(table, state, out)
+}
+
+// Reads the six coefficients of a table at a state of five whole milliradians into `out`, or refuses and leaves `out` as it was.
+pub fn read(table: &[i64], state: [i64; VARIABLES], out: &mut [i64]) -> u64
+    ensures number { λ r. ⌜ r ≡ readNumber cumulus (now (table .entry)) (readings state) (now (out .entry)) ⌝ }
+    ensures output { λ r. ⌜ now (out .exit) ≡ readOutput cumulus (now (table .entry)) (readings state) (now (out .entry)) ⌝ }
+{
+    if table.len() != TABLE {
+        return WRONG_TABLE;
+    }
+    if out.len() != BLOCKS {
+        return WRONG_OUTPUT;
+    }
+    read_known(table, soundness(table), state, out)
 }

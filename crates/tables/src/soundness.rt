@@ -7,9 +7,12 @@ ghost use Rattle.layout.specs.Shape.{cumulus, tableLength};
 ghost use Rattle.layout.specs.Limits.{good};
 ghost use Rattle.layout.specs.Sound.{light};
 ghost use Rattle.layout.specs.Refusals.{first, _when_, badLimits, tooHeavy};
+ghost use Rattle.tables.specs.Ready.{tableNumber};
+use layout::TABLE;
 use layout::refusals::BAD_LIMITS;
 use layout::refusals::DONE;
 use layout::refusals::TOO_HEAVY;
+use layout::refusals::WRONG_TABLE;
 use limits::Limits;
 use weights::within_cap;
 
@@ -26,4 +29,14 @@ pub fn soundness(table: &[i64]) -> u64
         return TOO_HEAVY;
     }
     DONE
+}
+
+// The refusal of a table by itself, whatever is read: its length, then what makes it unsound.
+pub fn refusal_of(table: &[i64]) -> u64
+    ensures { λ r. ⌜ r ≡ tableNumber (now (table .entry)) ⌝ }
+{
+    if table.len() != TABLE {
+        return WRONG_TABLE;
+    }
+    soundness(table)
 }

@@ -7,6 +7,7 @@ ghost use mathlib.Core.Path.{_≡_};
 ghost use mathlib.Core.Bool.{true};
 ghost use Prim.Native.Nat.{_≤_};
 ghost use lib.ListN.{length};
+ghost use Rattle.answers.specs.Answers.{longest};
 ghost use Rattle.answers.specs.Reading.{readingsAfter};
 
 // The reading after a piece, where all of its answers were written.
@@ -17,7 +18,7 @@ struct Answered {
 
 // Answers a piece of the input, with a write each time the output is full; stops where a write fails.
 fn answer_piece(table: &[i64], reading: Reading, piece: &[u8], out: &mut [u8]) -> Answered
-    requires { ⌜ 147 ≤ length (now out) ⌝ }
+    requires { ⌜ longest ≤ length (now out) ⌝ }
     ensures { λ r. ⌜ (r .written ≡ true → r .reading ≡ readingsAfter reading (now (piece .entry))) ⌝ }
 {
     let mut current = reading;
@@ -43,7 +44,7 @@ fn answer_piece(table: &[i64], reading: Reading, piece: &[u8], out: &mut [u8]) -
 
 // Up to the end of the input. A proved loop has to end, so it counts its turns down from a number that no run uses up.
 fn run(table: &[i64], buf: &mut [u8], out: &mut [u8])
-    requires { ⌜ 147 ≤ length (now out) ⌝ }
+    requires { ⌜ longest ≤ length (now out) ⌝ }
 {
     let mut reading = Reading::fresh();
     let mut turns = u64::MAX;

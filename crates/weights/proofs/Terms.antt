@@ -2,6 +2,7 @@
 --   place-own, place-side, place-bound   where a term's number stands, within the table
 --   positive, row-bits                   what it counts with: at least 1, and the same by the bits of the reaches
 --   whole-length                         how many numbers the table has
+--   groups-sum                           the weight of a coefficient is the sum of its three groups'
 --   weight-terms                         the weight of a coefficient is the sum of its forty terms
 use mathlib.Core.Path.{_≡_, refl, sym, _∙_, ap, ap₂}
 use mathlib.Core.Bool.{Bool, true, false, cond}
@@ -30,6 +31,7 @@ use Rattle.layout.specs.Shape.{kindsLength, tableLength, cumulus}
 use Rattle.layout.specs.Blocks.{piece, groups, chosen, coefficient}
 use Rattle.weights.specs.Reaches.{Reaching}
 use Rattle.weights.specs.Terms.{product, factorAt, termPlace}
+use Rattle.weights.specs.Joined.{groupWeight}
 
 pub place-own : (b n k : ℕ) → k < 10 → termPlace b n k ≡ 11 + 50 * b + (10 * n + k)
 unfolding termPlace
@@ -139,6 +141,15 @@ unfolding coefficient chosen groups totalWeight kindsLength below
 groups-weight t b zero r h = ap (λ x. weight (take 10 (blockOf t b)) (r 0) (r 3) + x) (sides (blockOf t b) r)
 groups-weight t b (suc zero) r h = ap (λ x. weight (take 10 (drop 10 (blockOf t b))) (r 0) (r 3) + x) (sides (blockOf t b) r)
 groups-weight t b (suc (suc n)) r h = absurd (omega arith)
+
+pub groups-sum : (t : List ℤ) (b n : ℕ) (r : ℕ → ℕ) → length t ≡ tableLength cumulus → b < 6 → n < 2
+    → totalWeight (coefficient cumulus t b (piece n)) r
+    ≡ groupWeight t b (10 * n) 10 (r 0) (r 3) + (groupWeight t b 20 15 (r 1) (r 2) + groupWeight t b 35 15 (r 1) (r 4))
+groups-sum t b n r e hb hn =
+    let fits : 11 + 50 * b + 50 ≤ length t = omega (arith, whole-length) in
+    groups-weight t b n r hn
+    ∙ ap₂ _+_ (part-weight t (11 + 50 * b) fits (10 * n) 10 (omega arith) (r 0) (r 3) _ (λ k h. refl))
+    (ap₂ _+_ (part-weight t (11 + 50 * b) fits 20 15 (omega arith) (r 1) (r 2) _ (λ k h. refl)) (part-weight t (11 + 50 * b) fits 35 15 (omega arith) (r 1) (r 4) _ (λ k h. refl)))
 
 pub weight-terms : (t : List ℤ) (b n : ℕ) (r : ℕ → ℕ) → length t ≡ tableLength cumulus → b < 6 → n < 2
     → totalWeight (coefficient cumulus t b (piece n)) r ≡ sum nats 40 (weighed t r b n)

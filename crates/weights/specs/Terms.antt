@@ -8,18 +8,24 @@ use lib.ListN.{length}
 use lib.Signed.{_≤ℤ_}
 use Rattle.polynomials.specs.Order.{powers, size}
 use Rattle.polynomials.specs.Limits.{farthest, highest}
+use Rattle.layout.specs.Numbers.{limits, block, pitch, side}
 
 -- in a group, the powers of two reaches at a place
 abbrev pub product : ℕ → ℕ → ℕ → ℕ
 product r s k = r ^ powers k .first * s ^ powers k .second
 
+-- how many terms there are
+abbrev pub terms : ℕ
+terms = pitch + side + side
+
 -- the powers that term k counts with, at given reaches: of alpha and eta, of beta and xi, of beta and zeta
 unfoldable pub factorAt : (ℕ → ℕ) → ℕ → ℕ
-factorAt r k = cond (ltb k 10) (product (r 0) (r 3) k) (cond (ltb k 25) (product (r 1) (r 2) (k - 10)) (product (r 1) (r 4) (k - 25)))
+factorAt r k =
+    cond (ltb k pitch) (product (r 0) (r 3) k) (cond (ltb k (pitch + side)) (product (r 1) (r 2) (k - pitch)) (product (r 1) (r 4) (k - (pitch + side))))
 
 -- where the number of term k stands in a table, for the block b and the piece n: a block has the low group, the high group and the side groups
 unfoldable pub termPlace : ℕ → ℕ → ℕ → ℕ
-termPlace b n k = 11 + 50 * b + cond (ltb k 10) (10 * n + k) (10 + k)
+termPlace b n k = limits + block * b + cond (ltb k pitch) (pitch * n + k) (pitch + k)
 
 -- what the factors of a group ask: places for few enough of them, and the two reaches
 pub record Fillable (part : List ℕ) (r s : ℤ) : Type 0 where

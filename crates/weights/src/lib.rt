@@ -7,7 +7,10 @@ ghost use Rattle.polynomials.specs.Sum.{listed};
 ghost use Rattle.layout.specs.Shape.{cumulus};
 ghost use Rattle.layout.specs.Sound.{withinCap};
 ghost use Rattle.weights.specs.Reaches.{reachesOf, Reaching, Checkable};
-ghost use Rattle.weights.specs.Terms.{product, factorAt, termPlace, Fillable};
+ghost use Rattle.weights.specs.Terms.{product, factorAt, termPlace, terms, Fillable};
+
+pub mod quick;
+
 use layout::BLOCK;
 use layout::BLOCKS;
 use layout::LIMITS;
@@ -52,7 +55,7 @@ fn fill(part: &mut [u64], r: i64, s: i64)
 // ten, of beta and xi for the next fifteen, of beta and zeta for the last fifteen.
 pub fn factors(reaches: [i64; VARIABLES]) -> [u64; TERMS]
     requires { ⌜ Reaching reaches ⌝ }
-    ensures { λ r. ⌜ r ≡ listed 40 (factorAt (λ i. natAbs (getD reaches i (pos 0)))) ⌝ }
+    ensures { λ r. ⌜ r ≡ listed terms (factorAt (λ i. natAbs (getD reaches i (pos 0)))) ⌝ }
 {
     let mut f: [u64; TERMS] = [0; TERMS];
     fill(&mut f[0..PITCH], reaches[0], reaches[3]);
@@ -63,7 +66,7 @@ pub fn factors(reaches: [i64; VARIABLES]) -> [u64; TERMS]
 
 // Where the number of a term stands in the table; the pieces share the side groups, which come after both of their own.
 fn term_place(block: usize, piece: usize, term: usize) -> usize
-    requires { ⌜ (block < 6) × ((piece < 2) × (term < 40)) ⌝ }
+    requires { ⌜ (block < cumulus .blocks) × ((piece < 2) × (term < terms)) ⌝ }
     ensures { λ r. ⌜ r ≡ termPlace block piece term ⌝ }
 {
     let start = LIMITS + BLOCK * block;
@@ -75,7 +78,7 @@ fn term_place(block: usize, piece: usize, term: usize) -> usize
 
 // Whether every coefficient's weight in both pieces is within the cap, at the given reaches. It leaves at the first block
 // and piece whose weight passes.
-pub fn within_cap(table: &[i64], low: [i64; VARIABLES], high: [i64; VARIABLES]) -> bool
+fn each_within(table: &[i64], low: [i64; VARIABLES], high: [i64; VARIABLES]) -> bool
     requires { ⌜ Checkable (now table) low high ⌝ }
     ensures { λ r. ⌜ r ≡ withinCap cumulus (now (table .entry)) (reachesOf low high) ⌝ }
 {
@@ -96,4 +99,15 @@ pub fn within_cap(table: &[i64], low: [i64; VARIABLES], high: [i64; VARIABLES]) 
         }
     }
     ok
+}
+
+// The same, by the quick test where that decides.
+pub fn within_cap(table: &[i64], low: [i64; VARIABLES], high: [i64; VARIABLES]) -> bool
+    requires { ⌜ Checkable (now table) low high ⌝ }
+    ensures { λ r. ⌜ r ≡ withinCap cumulus (now (table .entry)) (reachesOf low high) ⌝ }
+{
+    if quick::surely_within(table, low, high) {
+        return true;
+    }
+    each_within(table, low, high)
 }

@@ -1,32 +1,38 @@
 -- `answers::feed` meets its contract. The loop's invariant: the reading and the output are those of the bytes taken, and there was room before each.
 -- Assumes nothing.
-use mathlib.Core.Path.{_≡_, refl, sym, ap, ap₂, _∙_}
-use mathlib.Core.List.{_++_}
+use mathlib.Core.Path.{_≡_, refl, sym, ap, ap₂, _∙_, subst}
+use mathlib.Core.List.{List, _++_, append-nil}
 use Prim.Native.Nat.{ℕ, _+_, _-_, _≤_, _<_}
 use native.Mathlib.Nat.{zero-add}
 use native.Mathlib.Omega.{arith}
-use borrow.Author.Count.{below-more}
+use native.Mathlib.Decide.{decLt}
 use borrow.Author.Needs.{needs}
-use lib.ListN.{length, take, getD, length-append}
+use lib.IntN.{ℤ}
+use lib.ListN.{length, take, length-append}
 use Rattle.printing.specs.Spell.{written}
 use Rattle.printing.proofs.Writing.{written-append}
-use Rattle.answers.specs.Reading.{readingAfter, readingsAfter, answerAt, answersOf}
-use Rattle.answers.proofs.Program.{readings-more, answers-more}
+use Rattle.answers.specs.Answers.{longest}
+use Rattle.answers.specs.Reading.{readingsAfter, answersOf, part, Taken}
+use Rattle.answers.specs.declared.Fed.{Fed}
+use Rattle.answers.proofs.Parts.{joined-readings, joined-answers}
 use Rattle.answers.proofs.feed.Statement.{statement}
 use Rattle.answers.proofs.feed.Tie as tie
 
 abbrev Inv-loop : tie.InvT-loop
-Inv-loop table input out₀ current₀ taken₀ put₀ out current taken put =
+Inv-loop table input out₀ refused current₀ taken₀ put₀ out current taken put =
     (taken ≤ length input)
     × (length out ≡ length out₀)
     × (current ≡ readingsAfter current₀ (take taken input))
     × (put ≡ length (answersOf table current₀ (take taken input)))
     × (put ≤ length out₀)
     × (out ≡ written out₀ 0 (answersOf table current₀ (take taken input)))
-    × ((i : ℕ) → i < taken → length (answersOf table current₀ (take i input)) + 147 ≤ length out₀)
+    × ((i : ℕ) → i < taken → length (answersOf table current₀ (take i input)) + longest ≤ length out₀)
 
 abbrev μ-loop : tie.MeasureT-loop
-μ-loop table input out₀ current₀ taken₀ put₀ out current taken put = length input - taken
+μ-loop table input out₀ refused current₀ taken₀ put₀ out current taken put = length input - taken
+
+refusal-of-requires : tie.Need-refusal-of-requires Inv-loop μ-loop
+refusal-of-requires c κs = search needs
 
 loop-holds : tie.Need-loop-holds Inv-loop μ-loop
 loop-holds c = (omega arith, refl, refl, refl, omega arith, refl, λ i h. absurd (omega arith))
@@ -42,44 +48,84 @@ returns c =
     let l = c .before .before .loop in
     record { within = l .inv .0; reading = l .inv .2; place = l .inv .3; output = l .inv .5; room = l .inv .4; roomy = l .inv .6; full = λ h. omega (arith, c .if1 .taken, l .inv .1) }
 
-shared-slice-read-take-byte : tie.Need-shared-slice-read-take-byte Inv-loop μ-loop
-shared-slice-read-take-byte c = search needs
+take-line-requires : tie.Need-take-line-requires Inv-loop μ-loop
+take-line-requires c κs =
+    let l = c .before .before .before in
+    record { known = l .before .refusal-of .ensures; byte = c .before .before .loop-test .taken; room = omega (arith, c .before .if1 .left, l .loop .inv .1, l .loop .inv .4) }
 
-take-byte-requires : tie.Need-take-byte-requires Inv-loop μ-loop
-take-byte-requires c κs = search needs
+-- ---- a turn, with the reading that the bytes before it leave
+module _ (c : tie.After-take-line Inv-loop μ-loop) where
+  abbrev at : tie.At-loop Inv-loop μ-loop
+  at = c .before .before .before .before
 
-add-taken : tie.Need-add-taken Inv-loop μ-loop
-add-taken c = search needs
+  abbrev begin : tie.Start Inv-loop μ-loop
+  begin = at .before .before .before .before
+
+  abbrev table : List ℤ
+  table = begin .args .table .now
+
+  abbrev input : List ℕ
+  input = begin .args .input .now
+
+  abbrev from : ℕ
+  from = at .loop .taken
+
+  abbrev fed : Fed
+  fed = c .take-line .result
+
+  turn : Taken table (readingsAfter (begin .args .reading) (take from input)) input from (at .loop .out) (c .take-line .last .1 .1 .1 .1 .1 .0) (at .loop .put) fed
+  turn = subst (λ r. Taken table r input from (at .loop .out) (c .take-line .last .1 .1 .1 .1 .1 .0) (at .loop .put) fed) (at .loop .inv .2) (c .take-line .ensures)
+
+  -- the answers before it, and its own
+  abbrev before : List ℕ
+  before = answersOf table (begin .args .reading) (take from input)
+
+  abbrev own : ℕ → List ℕ
+  own end = answersOf table (readingsAfter (begin .args .reading) (take from input)) (part input from end)
+
+  joined : (end : ℕ) → from ≤ end → before ++ own end ≡ answersOf table (begin .args .reading) (take end input)
+  joined = joined-answers table (begin .args .reading) input from
+
+  room : at .loop .put + longest ≤ length (begin .args .out .now)
+  room = omega (arith, c .before .before .if1 .left, at .loop .inv .1, at .loop .inv .4)
+
+  place : fed .put ≡ length (before ++ own (fed .taken))
+  place = omega (arith, turn .place, at .loop .inv .3, length-append before (own (fed .taken)))
+
+  within : fed .put ≤ length (begin .args .out .now)
+  within = omega (arith, turn .room, room)
+
+  output : c .take-line .last .1 .1 .1 .1 .1 .0 ≡ written (begin .args .out .now) 0 (before ++ own (fed .taken))
+  output =
+      turn .output
+      ∙ ap₂ (λ o p. written o p (own (fed .taken))) (at .loop .inv .5) (at .loop .inv .3 ∙ sym (zero-add (length before)))
+      ∙ written-append (begin .args .out .now) 0 before (own (fed .taken)) (omega (arith, place, within))
+
+  -- nothing is answered before its last byte
+  roomy : (i : ℕ) → i < fed .taken → length (answersOf table (begin .args .reading) (take i input)) + longest ≤ length (begin .args .out .now)
+  roomy i h = pick (decLt i from)
+    where
+      pick : Dec (i < from) → length (answersOf table (begin .args .reading) (take i input)) + longest ≤ length (begin .args .out .now)
+      pick (yes b) = at .loop .inv .6 i b
+      pick (no b) =
+          let e = sym (joined i (omega arith)) ∙ ap (λ xs. before ++ xs) (turn .silent i (omega arith) h) ∙ append-nil before in
+          omega (arith, ap length e, at .loop .inv .3, room)
 
 loop-less : tie.Need-loop-less Inv-loop μ-loop
-loop-less c = search needs
+loop-less c = let d = c .before .before .before in omega (arith, turn d .forward, turn d .within)
 
 loop-again : tie.Need-loop-again Inv-loop μ-loop
 loop-again c =
-    let a = c .before .before .before .before .before .before .before .before .before .before .before .args in
-    let l = c .before .before .before .before .before .before .before .before .loop in
-    let h = c .before .before .before .before .before .before .before .loop-test .taken in
-    let room = c .before .before .before .before .before .before .if1 .left in
-    let turn = c .before .before .before .take-byte in
-    let byte = getD (a .input .now) (l .taken) 0 in
-    let r = readingsAfter (a .reading) (take (l .taken) (a .input .now)) in
-    let A = answersOf (a .table .now) (a .reading) (take (l .taken) (a .input .now)) in
-    let B = answerAt (a .table .now) r byte in
-    let same : answerAt (a .table .now) (l .current) byte ≡ B = ap (λ s. answerAt (a .table .now) s byte) (l .inv .2) in
-    let more : A ++ B ≡ answersOf (a .table .now) (a .reading) (take (l .taken + 1) (a .input .now)) = answers-more (a .table .now) (a .reading) (a .input .now) (l .taken) h in
-    let place : turn .result .put ≡ length (A ++ B) = omega (arith, turn .ensures .1 .0, l .inv .3, ap length same, length-append A B) in
-    let within : turn .result .put ≤ length (a .out .now) = omega (arith, turn .ensures .1 .1 .1, room, l .inv .1, l .inv .4) in (
-      omega (arith, h),
-      turn .kept .1 .1 .1 .0 ∙ l .inv .1,
-      turn .ensures .0 ∙ ap (λ s. readingAfter s byte) (l .inv .2) ∙ readings-more (a .reading) (a .input .now) (l .taken) h,
-      place ∙ ap length more,
-      within,
-      turn .ensures .1 .1 .0
-          ∙ ap (written (l .out) (l .put)) same
-          ∙ ap₂ (λ o p. written o p B) (l .inv .5) (l .inv .3 ∙ sym (zero-add (length A)))
-          ∙ written-append (a .out .now) 0 A B (omega (arith, place, within))
-          ∙ ap (written (a .out .now) 0) more,
-      below-more (λ i. length (answersOf (a .table .now) (a .reading) (take i (a .input .now))) + 147 ≤ length (a .out .now)) (l .taken) (l .inv .6) (omega (arith, room, l .inv .1, l .inv .3, l .inv .4)),
+    let d = c .before .before .before in
+    let end = fed d .taken in
+    let forward : from d ≤ end = omega (arith, turn d .forward) in (
+      turn d .within,
+      d .take-line .kept .1 .1 .1 .1 .1 .0 ∙ at d .loop .inv .1,
+      turn d .reading ∙ joined-readings (table d) (begin d .args .reading) (input d) (from d) end forward,
+      place d ∙ ap length (joined d end forward),
+      within d,
+      output d ∙ ap (written (begin d .args .out .now) 0) (joined d end forward),
+      roomy d,
     )
 
 same-length-2 : tie.Need-same-length-2 Inv-loop μ-loop
@@ -96,13 +142,12 @@ feed-spec =
     (tie.spec
     Inv-loop
     μ-loop
+    refusal-of-requires
     loop-holds
     sub-if1
     same-length
     returns
-    shared-slice-read-take-byte
-    take-byte-requires
-    add-taken
+    take-line-requires
     loop-less
     loop-again
     same-length-2

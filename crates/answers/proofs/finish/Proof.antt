@@ -15,6 +15,9 @@ use Rattle.answers.specs.Reading.{lastAnswer}
 use Rattle.answers.proofs.finish.Statement.{statement}
 use Rattle.answers.proofs.finish.Tie as tie
 
+refusal-of-requires : tie.Need-refusal-of-requires
+refusal-of-requires c κs = search needs
+
 finish-requires : tie.Need-finish-requires
 finish-requires c κs = search needs
 
@@ -26,11 +29,11 @@ same-length c = search needs
 
 returns : tie.Need-returns
 returns c =
-    let a = c .before .before .before .before .before .before .before .before .args in
+    let a = c .before .before .before .before .before .before .before .before .before .args in
     let line = c .before .before .put-line in
     let done = c .before .before .before .before .finish in
     let whole : answerOf (a .table .now) (done .result) ≡ lastAnswer (a .table .now) (a .reading) =
-    ap (answerOf (a .table .now)) (done .ensures) ∙ ap (λ u. cond u (answerOf (a .table .now) (finished (a .reading .line))) []) (sym (c .before .before .before .before .before .if1 .taken)) in
+    ap (answerOf (a .table .now)) (done .ensures) ∙ ap (λ u. cond u (answerOf (a .table .now) (finished (a .reading .line))) []) (sym (c .before .before .before .before .before .before .if1 .taken)) in
     (line .ensures .0 ∙ ap (λ bytes. a .at + length bytes) whole, (line .ensures .1 .0 ∙ ap (written (a .out .now) (a .at)) whole, line .ensures .1 .1))
 
 returns-2 : tie.Need-returns-2
@@ -41,4 +44,4 @@ returns-2 c =
     (omega (arith, ap length none), (written-sets (a .out .now) (a .at) [] (omega (arith, start .pre)) ∙ ap (written (a .out .now) (a .at)) (sym none), omega arith))
 
 pub finish-spec : {M : Type 1} → statement M
-finish-spec = tie.close (tie.spec finish-requires put-line-requires same-length returns returns-2)
+finish-spec = tie.close (tie.spec refusal-of-requires finish-requires put-line-requires same-length returns returns-2)

@@ -27,11 +27,11 @@ put-answer-requires c κs = search needs
 enum-known-line : tie.Need-enum-known-line
 enum-known-line c = search needs
 
-slice-aggregate-read : tie.Need-slice-aggregate-read
-slice-aggregate-read c = search needs
+slice-aggregate-read-known : tie.Need-slice-aggregate-read-known
+slice-aggregate-read-known c = search needs
 
-read-requires : tie.Need-read-requires
-read-requires c κs = search needs
+read-known-requires : tie.Need-read-known-requires
+read-known-requires c κs = search needs
 
 put-answer-requires-2 : tie.Need-put-answer-requires-2
 put-answer-requires-2 c κs = search needs
@@ -57,7 +57,7 @@ unfolding answerOf
 returns-2 c =
     let a = c .before .before .before .before .before .before .before .before .before .before .before .args in
     let answer = c .before .before .put-answer2 in
-    let read = c .before .before .before .before .before .read in
+    let read = c .before .before .before .before .before .read-known in
     let line = c .before .before .before .before .before .before .before .before .line .given in
     let v = line .0 in
     let alpha : toZ w64 (ofZ w64 (v .0)) ≡ v .0 = search needs in
@@ -80,8 +80,8 @@ put-line-spec =
     enum-told
     put-answer-requires
     enum-known-line
-    slice-aggregate-read
-    read-requires
+    slice-aggregate-read-known
+    read-known-requires
     put-answer-requires-2
     same-length
     returns

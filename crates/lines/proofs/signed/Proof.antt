@@ -1,4 +1,4 @@
--- `lines::signed` meets its contract: a number of 16 bits fits 64, and so does its negation.
+-- `lines::signed` meets its contract: a number of 32 bits fits 64, and so does its negation.
 -- Assumes nothing.
 use mathlib.Core.Path.{_≡_, ap, _∙_}
 use Prim.Native.Nat.{ℕ, zero, suc, _<_}
@@ -6,24 +6,24 @@ use native.Mathlib.Omega.{arith}
 use borrow.Author.Needs.{needs}
 use lib.Dec.{lit<}
 use lib.IntN.{pos, negℤ, _-ℤ_, +ℤ-idl}
-use mir.Syntax.{w16, w64}
+use mir.Syntax.{w32, w64}
 use mir.Val.{Fits, SFits, toZ, ofZ}
 use mir.Facts.{toZ-ofZ, toZ-pos}
 use Rattle.lines.proofs.signed.Statement.{statement}
 use Rattle.lines.proofs.signed.Tie as tie
 
--- 16 bits are a whole number of 64 bits, and so is its negation
-plain-read : (n : ℕ) → Fits w16 n → toZ w64 n ≡ pos n
+-- 32 bits are a whole number of 64 bits, and so is its negation
+plain-read : (n : ℕ) → Fits w32 n → toZ w64 n ≡ pos n
 plain-read n f = toZ-pos w64 {n = n} (omega (arith, f .fits))
 
-negation-fits : (n : ℕ) → Fits w16 n → SFits w64 (negℤ (pos n))
+negation-fits : (n : ℕ) → Fits w32 n → SFits w64 (negℤ (pos n))
 negation-fits zero f = record { sfits = lit< tt }
 negation-fits (suc n) f = record { sfits = omega (arith, f .fits) }
 
-minus-fits : (n : ℕ) → Fits w16 n → SFits w64 (pos 0 -ℤ toZ w64 n)
+minus-fits : (n : ℕ) → Fits w32 n → SFits w64 (pos 0 -ℤ toZ w64 n)
 minus-fits n f = rw (+ℤ-idl, plain-read n f) (negation-fits n f)
 
-minus-read : (n : ℕ) → Fits w16 n → toZ w64 (ofZ w64 (pos 0 -ℤ toZ w64 n)) ≡ negℤ (pos n)
+minus-read : (n : ℕ) → Fits w32 n → toZ w64 (ofZ w64 (pos 0 -ℤ toZ w64 n)) ≡ negℤ (pos n)
 minus-read n f = toZ-ofZ (minus-fits n f) ∙ +ℤ-idl (negℤ (toZ w64 n)) ∙ ap negℤ (plain-read n f)
 
 cast-plain : tie.Need-cast-plain

@@ -13,6 +13,7 @@ use lib.Seq.{take-all, take-add}
 use lib.IntN.{ℤ}
 use Rattle.answers.specs.declared.Reading.{Reading}
 use Rattle.answers.specs.declared.Fed.{Fed}
+use Rattle.answers.specs.Answers.{longest}
 use Rattle.answers.specs.Reading.{readingsAfter, answersOf, Feeding}
 use Rattle.answers.proofs.Program.{readings-append}
 use Rattle.trimcard.proofs.answer_piece.Statement.{statement}
@@ -29,7 +30,7 @@ rest : (at : ℕ) (piece : List ℕ) → take (length piece - at) (drop at piece
 rest at piece = take-all (length piece - at) (drop at piece) (omega (arith, length-drop at piece))
 
 -- where the output has room for an answer, a byte is taken
-progress : {t : List ℤ} {r : Reading} {input out out′ : List ℕ} (f : Fed) → Feeding t r input out out′ f → 0 < length input → 147 ≤ length out → (n : ℕ) → f .taken ≡ n → 0 < n
+progress : {t : List ℤ} {r : Reading} {input out out′ : List ℕ} (f : Fed) → Feeding t r input out out′ f → 0 < length input → longest ≤ length out → (n : ℕ) → f .taken ≡ n → 0 < n
 progress {t = t} {r = r} {input = input} f g h l zero e =
     absurd (omega (arith, g .full (omega (arith, e)), g .place ∙ ap (λ k. length (answersOf t r (take k input))) e, l))
 progress f g h l (suc n) e = omega arith

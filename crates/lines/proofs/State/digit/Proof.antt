@@ -1,4 +1,4 @@
--- `lines::State::digit` meets its contract: a value below 1000 has room for a byte more in 16 bits, and each way out follows the tests of the definition.
+-- `lines::State::digit` meets its contract: a value below 1000 has room for a byte more in 32 bits, and each way out follows the tests of the definition.
 -- Assumes nothing.
 use mathlib.Core.Path.{_∙_}
 use borrow.Author.Tests.{le-leb, lt-leb}

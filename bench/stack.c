@@ -1,0 +1,32 @@
+/* How many bytes of the stack a call of clochecloak_read takes, with its arguments and return address: it runs on a stack of its
+ * own that was filled with one byte, and the lowest changed place shows how deep it went. */
+#include "clochecloak.h"
+#include <stdio.h>
+#include <string.h>
+#include <ucontext.h>
+
+enum { SPACE = 1 << 20, FILL = 0xa5 };
+
+static unsigned char stack[SPACE], *frame;
+static ucontext_t here, there;
+static int64_t table[CLOCHECLOAK_TABLE], six[6];
+
+static void reads(void) {
+    frame = __builtin_frame_address(0);
+    clochecloak_read(table, CLOCHECLOAK_TABLE, 100, 20, -30, 40, -50, six, CLOCHECLOAK_COEFFICIENTS);
+}
+
+int main(void) {
+    clochecloak_publish(table, CLOCHECLOAK_TABLE);
+    memset(stack, FILL, SPACE);
+    getcontext(&there);
+    there.uc_stack.ss_sp = stack;
+    there.uc_stack.ss_size = SPACE;
+    there.uc_link = &here;
+    makecontext(&there, reads, 0);
+    swapcontext(&here, &there);
+    unsigned char *lowest = stack;
+    while (*lowest == FILL) lowest++;
+    printf("Stack of a read: %td bytes.\n", frame - lowest);
+    return 0;
+}
