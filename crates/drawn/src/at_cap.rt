@@ -34,7 +34,7 @@ fn read_with(
     changed
 }
 
-// The largest number that a place takes alone, and then with the rest of the cap beside it; the full table hardly moves.
+// The largest number that a place takes alone, and one more; then the same with the rest of the cap beside it, and a small move.
 pub fn one_place(draws: &mut u64, k: usize, count: &mut u64) {
     let t = bare(good_limits(draws));
     let place = LIMITS + k % NUMBERS;
