@@ -30,7 +30,8 @@ The lent output is filled beforehand: place i holds 1234567890123456789 + i.
 Lines; every part is separated by one space, N counts from 0, and table/length
 describe the table given (its checksum and its length):
     N publish OUTLEN NUMBER RESULT
-    N place I VALUE                       value at place I of the last table shown
+    N place I VALUE                       value at place I of the published table,
+                                          then of checked value 8's moved table
     N read TABLE LENGTH OUTLEN a b x e z NUMBER RESULT
     N move TABLE LENGTH OUTLEN VARIABLE SHIFT NUMBER RESULT
     N float TABLE LENGTH a b x e z NUMBER X Y Z l m n READING
