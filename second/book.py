@@ -1,8 +1,8 @@
 """The lines of the cases, and the draws that make them.
 
-Three programs in another language walk through the sections of cases.py,
-drawn.py and floats.py, in the same order and with the same draws, and must
-print the same bytes.  Every value used to make a case is a signed or unsigned
+Four programs in another language walk through the sections of checked.py,
+cases.py, drawn.py and floats.py, in the same order and with the same draws, and
+must print the same bytes.  Every value used to make a case is a signed or unsigned
 64-bit number; sums and products marked "wrapping" are taken modulo 2^64.
 
 The generator (xorshift64*), one fresh copy per section:

@@ -1,59 +1,19 @@
-"""Listed cases: publish, the checked values 1 to 11, readings and moves at every
-limit, wrong lengths, every mixture of defects, single numbers.
+"""Listed cases: readings and moves at every limit, wrong lengths, every mixture
+of defects, single numbers.
 
 The lines are described in book.py; nothing here is drawn.
 """
 
 import book as lines
-import tables
 from book import I64_MAX, I64_MIN, MASK
 from makers import (
-    NARROW_LIMITS, PROMISED_SIZES, TABLE_LENGTHS, X_CONSTANT, X_LOW_AAA, ZEROS,
+    NARROW_LIMITS, PROMISED_SIZES, TABLE_LENGTHS, X_LOW_AAA, ZEROS,
     last_accepted, of_length, with_place, with_reading, zero_table,
 )
 from model import FIRST_BLOCK, PUBLISHED_TABLE
-from tables import HIGHEST, LOWEST, WEIGHT_CAP
+from tables import HIGHEST, LOWEST
 
 ODD_VARIABLES = (5, 6, 1 << 32, (1 << 32) + 1, 1 << 63, MASK)
-
-
-def publish_section(book, _):
-    for length in TABLE_LENGTHS:
-        book.publish(length)
-    for index in range(311):
-        book.place(PUBLISHED_TABLE, index)
-
-
-def checked_values_section(book, _):
-    t = PUBLISHED_TABLE
-    # 1 to 6
-    book.read(t, ZEROS)
-    book.read(t, with_reading(0, 100))
-    book.read(t, with_reading(0, 313))
-    book.read(t, with_reading(0, 314))
-    book.read(t, [100, 0, 0, 100, 0])
-    book.read(t, with_reading(2, 100))
-    # 7
-    for alpha in (1000, 1001, -150, -151):
-        book.read(t, with_reading(0, alpha))
-    book.read(t, [1001, 501, 0, 0, 0])
-    # 8 and 9
-    for shift in (100, -1000, -1001):
-        book.move(t, 0, shift)
-    moved = list(t)
-    tables.move(t, 0, 100, moved)
-    for index in range(21):
-        book.place(moved, index)
-    # 10
-    for value in (WEIGHT_CAP, WEIGHT_CAP + 1):
-        lone = with_place(zero_table(t[:11]), X_CONSTANT, value)
-        book.read(lone, ZEROS)
-        book.move(lone, 0, 0)
-    # 11
-    narrow = with_place(zero_table(NARROW_LIMITS), X_LOW_AAA, 9000000000000)
-    for alpha, shift in ((0, 0), (-25, 100), (-50, -100), (-75, 1), (-100, -1)):
-        book.read(narrow, with_reading(0, alpha))
-        book.move(narrow, 0, shift)
 
 
 def published_limits_section(book, _):
@@ -154,9 +114,8 @@ def single_places_section(book, _):
 
 
 SECTIONS = (
-    publish_section, checked_values_section, published_limits_section,
-    published_moves_section, lengths_section, order_section,
-    smallest_number_section, single_places_section,
+    published_limits_section, published_moves_section, lengths_section,
+    order_section, smallest_number_section, single_places_section,
 )
 
 

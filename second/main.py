@@ -1,5 +1,6 @@
 """Command line of the second program.
 
+    python3 main.py checked            print the lines of the checked values
     python3 main.py cases              print the lines of the listed cases
     python3 main.py drawn              print the lines of the drawn cases
     python3 main.py floats             print the lines of the reads with floats
@@ -10,12 +11,14 @@
 import sys
 
 import cases
+import checked
 import drawn
 import floats
 import trimcard
 import trimcard_input
 
-CASES = {"cases": cases.run, "drawn": drawn.run, "floats": floats.run}
+CASES = {"checked": checked.run, "cases": cases.run, "drawn": drawn.run,
+         "floats": floats.run}
 
 
 def main(arguments):

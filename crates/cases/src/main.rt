@@ -1,5 +1,4 @@
 // Runs listed cases through the library and writes a line for each; an independent program writes the same lines.
-mod checked;
 mod ends;
 mod refused;
 mod shifts;
@@ -12,13 +11,6 @@ use makers::plain::NUMBERS;
 use makers::plain::published;
 
 enum Section {
-    Publish,
-    Places,
-    CheckedReads,
-    CheckedMoves,
-    MovedPlaces,
-    CheckedCap,
-    CheckedNarrow,
     Readings,
     Cut,
     Corners,
@@ -37,13 +29,6 @@ enum Section {
 // The k-th turn of a section.
 fn turn(section: Section, k: usize, t: &[i64; TABLE], count: &mut u64) {
     match section {
-        Section::Publish => checked::publish(k, count),
-        Section::Places => checked::place(t, k, count),
-        Section::CheckedReads => checked::read_state(t, k, count),
-        Section::CheckedMoves => checked::move_alpha(t, k, count),
-        Section::MovedPlaces => checked::moved_place(t, k, count),
-        Section::CheckedCap => checked::cap(k, count),
-        Section::CheckedNarrow => checked::narrow(k, count),
         Section::Readings => ends::reading(t, k, count),
         Section::Cut => ends::cut(t, k, count),
         Section::Corners => ends::corner(t, k, count),
@@ -66,16 +51,6 @@ fn turns(section: Section, end: usize, t: &[i64; TABLE], count: &mut u64) {
         turn(section, k, t, count);
         k += 1;
     }
-}
-
-fn checked_values(t: &[i64; TABLE], count: &mut u64) {
-    turns(Section::Publish, 10, t, count);
-    turns(Section::Places, TABLE, t, count);
-    turns(Section::CheckedReads, 11, t, count);
-    turns(Section::CheckedMoves, 3, t, count);
-    turns(Section::MovedPlaces, 21, t, count);
-    turns(Section::CheckedCap, 2, t, count);
-    turns(Section::CheckedNarrow, 5, t, count);
 }
 
 // Readings and moves of the published table at every limit.
@@ -102,7 +77,6 @@ fn refusals(t: &[i64; TABLE], count: &mut u64) {
 fn main() {
     let t = published();
     let mut count: u64 = 0;
-    checked_values(&t, &mut count);
     published_table(&t, &mut count);
     refusals(&t, &mut count);
 }
