@@ -1,21 +1,135 @@
-"""Tables and float readings that only the self-check draws."""
+"""Tables and states for cases: plain ones, drawn ones, ones at a border."""
 
 from fractions import Fraction
 
 import door
-from cases import zero_table
-from model import FIRST_BLOCK, GROUPS
-from tables import HIGHEST, LOWEST
+import tables
+from book import I64_MAX, I64_MIN, signed
+from model import (
+    BLOCK_LENGTH, FIRST_BLOCK, GROUPS, HIGH_GROUP, LOW_GROUP, PUBLISHED_TABLE,
+    TABLE_LENGTH, XI_GROUP, ZETA_GROUP, place_of,
+)
+from tables import HIGHEST, LOWEST, WEIGHT_CAP
+
+ZEROS = [0, 0, 0, 0, 0]
+NARROW_LIMITS = (-100, 0, 1, 0, 0, 0, 0, 0, 0, 0, 0)
+X_CONSTANT = FIRST_BLOCK
+X_LOW_AAA = place_of(0, 0, (3, 0))          # place 17
+# the length of a table, and others about it and about those of its parts
+TABLE_LENGTHS = (311, 0, 1, 6, 10, 11, 61, 310, 312, 622)
+# sizes up to which each single move of the published table is accepted
+PROMISED_SIZES = (300, 200, 100, 200, 200)
 
 
-def bits_of_ratio(numerator, denominator):
-    """Pattern of numerator / denominator; used only where that is exact."""
-    return door.nearest_bits(Fraction(numerator, denominator))
+# ----------------------------------------------------------------------- plain
+
+def with_reading(variable, value):
+    readings = list(ZEROS)
+    readings[variable] = value
+    return readings
 
 
-def bits_of_whole(number):
-    return bits_of_ratio(number, 1)
+def with_place(table, place, value):
+    changed = list(table)
+    changed[place] = value
+    return changed
 
+
+def of_length(length):
+    """The published table, cut short or with zeros behind it."""
+    return [PUBLISHED_TABLE[i] if i < TABLE_LENGTH else 0 for i in range(length)]
+
+
+def zero_table(limits):
+    return list(limits) + [0] * 300
+
+
+# ---------------------------------------------------------------------- states
+
+def inside_state(gen, table):
+    """Five readings within the limits, often on them or at the cut."""
+    readings = []
+    for v in range(5):
+        lo, hi = table[LOWEST[v]], table[HIGHEST[v]]
+        way = gen.take(0, 7)
+        reading = gen.take(lo, hi)
+        if way == 0:
+            reading = lo
+        elif way == 1:
+            reading = hi
+        elif way == 2 and v == 0:
+            reading = table[1]
+        elif way == 3 and v == 0:
+            reading = signed(table[1] + 1)
+        readings.append(reading)
+    return readings
+
+
+def spoil_state(gen, table, readings):
+    """Replace one reading by a value just past a limit or far away."""
+    v = gen.take(0, 4)
+    way = gen.take(0, 4)
+    anything = gen.take(I64_MIN, I64_MAX)
+    spoilt = list(readings)
+    spoilt[v] = (signed(table[LOWEST[v]] - 1), signed(table[HIGHEST[v]] + 1),
+                 I64_MIN, I64_MAX, anything)[way]
+    return spoilt
+
+
+def shifted(readings, variable, shift):
+    """The same state told from the moved datum."""
+    moved = list(readings)
+    moved[variable] = signed(moved[variable] - shift)
+    return moved
+
+
+# -------------------------------------------------------------- changed tables
+
+def nudged(gen, table):
+    """A small move, which the published table always takes."""
+    variable = gen.take(0, 4)
+    shift = gen.take(-100, 100)
+    moved = [0] * TABLE_LENGTH
+    tables.move(table, variable, shift, moved)
+    return moved
+
+
+def spoil_limits(gen, table):
+    """Limits that are not good, or, the last way, just still good."""
+    t = list(table)
+    way = gen.take(0, 6)
+    place = gen.take(0, 10)
+    v = gen.take(1, 4)
+    anything = gen.take(I64_MIN, I64_MAX)
+    if way == 0:
+        t[place] = 2001
+    elif way == 1:
+        t[place] = -2001
+    elif way == 2:
+        t[place] = gen.pick((I64_MIN, I64_MAX, anything))
+    elif way == 3:
+        t[1] = t[2]                         # no room for the high piece
+    elif way == 4:
+        t[0] = t[1] + 1                     # no room for the low piece
+    elif way == 5:
+        t[LOWEST[v]] = t[HIGHEST[v]] + 1
+    else:
+        t[LOWEST[v]] = t[HIGHEST[v]]        # still good: one single reading
+    return t
+
+
+def damaged(gen, table):
+    """One number changed."""
+    place = gen.take(0, 310)
+    way = gen.take(0, 6)
+    anything = gen.take(I64_MIN, I64_MAX)
+    old = table[place]
+    return with_place(table, place, (
+        I64_MIN, I64_MAX, signed(old + 1), signed(old - 1), signed(-old), 0,
+        anything)[way])
+
+
+# --------------------------------------------------------------- random tables
 
 def good_limits(gen):
     """Eleven good limits, drawn in the order of their places."""
@@ -31,9 +145,20 @@ def good_limits(gen):
     return limits
 
 
-def widest_reach(limits, variable):
-    """Largest of 1 and the magnitudes of the two outer limits."""
-    return max(1, abs(limits[LOWEST[variable]]), abs(limits[HIGHEST[variable]]))
+def factor_at(limits, place):
+    """The product of reaches by which the number at a place is weighed."""
+    group_number, inside = group_and_offset(place)
+    group = GROUPS[group_number]
+    radii = tables.reaches(limits, LOW_GROUP if group_number == LOW_GROUP else HIGH_GROUP)
+    of_first, of_second = group.powers[inside]
+    return radii[group.first] ** of_first * radii[group.second] ** of_second
+
+
+def group_and_offset(place):
+    """The number of a place's group, and its place inside that."""
+    offset = (place - FIRST_BLOCK) % BLOCK_LENGTH
+    number = max(g for g in range(len(GROUPS)) if GROUPS[g].start <= offset)
+    return number, offset - GROUPS[number].start
 
 
 BUDGETS = (500000000000000000, 400000000000000000, 200000000000000000,
@@ -50,18 +175,88 @@ def random_table(gen):
     budget = gen.pick(BUDGETS)
     density = gen.take(1, 4)                # quarters of the terms kept
     table = zero_table(limits)
-    place = FIRST_BLOCK
-    for block in range(6):
-        for group in GROUPS:
-            first = widest_reach(limits, group.first)
-            second = widest_reach(limits, group.second)
-            for p, q in group.powers:
-                bound = budget // (first**p * second**q)
-                number = gen.take(-bound, bound)
-                if gen.take(1, 4) <= density:
-                    table[place] = number
-                place += 1
+    for place in range(FIRST_BLOCK, TABLE_LENGTH):
+        bound = budget // factor_at(limits, place)
+        number = gen.take(-bound, bound)
+        if gen.take(1, 4) <= density:
+            table[place] = number
     return table
+
+
+# --------------------------------------------------------------------- borders
+
+def last_accepted(table, variable, sign):
+    """Largest size of an accepted move, by halving.
+
+    A move by 4001 always pushes a good limit out, and acceptance never comes
+    back as the size grows, so halving finds the border.
+    """
+    accepted, beyond = 0, 4001
+    while beyond - accepted > 1:
+        middle = (accepted + beyond) // 2
+        if tables.move_number(table, variable, sign * middle, 311) == 0:
+            accepted = middle
+        else:
+            beyond = middle
+    return accepted
+
+
+def of_sign(gen, size):
+    return -size if gen.take(0, 1) == 1 else size
+
+
+def full_number(limits, place):
+    """The largest number that a place takes alone."""
+    return WEIGHT_CAP // factor_at(limits, place)
+
+
+def rest_of_cap(limits, place):
+    """What the largest number leaves of the cap."""
+    return WEIGHT_CAP % factor_at(limits, place)
+
+
+def filling_place(place):
+    """The constant of a side group of the same block, never the place itself.
+
+    Its number weighs its own magnitude, in both pieces.
+    """
+    block = (place - FIRST_BLOCK) // BLOCK_LENGTH
+    filling = place_of(block, XI_GROUP, (0, 0))
+    return place_of(block, ZETA_GROUP, (0, 0)) if place == filling else filling
+
+
+def size_near(gen, full, way):
+    part = gen.take(0, 7)
+    less = gen.next() % (full // 2 + 1)
+    return (full // (part + 1), full - less, full)[way]
+
+
+def one_in_each_block(gen, limits, way):
+    """One number in each block, within the cap.
+
+    Way 0: at places of their own, each a part of the largest number; ways 1
+    and 2: all at the same place of their blocks, near the largest number and
+    the largest number itself.
+    """
+    table = zero_table(limits)
+    same = gen.take(0, BLOCK_LENGTH - 1)
+    for start in range(FIRST_BLOCK, TABLE_LENGTH, BLOCK_LENGTH):
+        own = gen.take(0, BLOCK_LENGTH - 1)
+        place = start + (own if way == 0 else same)
+        size = size_near(gen, full_number(limits, place), way)
+        table[place] = of_sign(gen, size)
+    return table
+
+
+# ---------------------------------------------------------------------- floats
+
+def bits_of_ratio(numerator, denominator):
+    """Pattern of numerator / denominator; used only where that is exact."""
+    return door.nearest_bits(Fraction(numerator, denominator))
+
+
+def bits_of_whole(number):
+    return bits_of_ratio(number, 1)
 
 
 SPECIAL_BITS = (
@@ -106,7 +301,7 @@ def inside_float(gen, lo, hi):
     half = bits_of_ratio(2 * gen.take(lo, hi - 1) + 1, 2)
     if way == 2:
         return half
-    return half + gen.take(-1, 1)               # a neighbour, or the half itself
+    return half + gen.take(-1, 1)           # a neighbour, or the half itself
 
 
 def inside_float_state(gen, table):

@@ -9,11 +9,12 @@ from fractions import Fraction
 import door
 import tables
 import trimcard
-from cases import (
-    Generator, canary_list, inside_state, shifted, with_place, with_reading,
-    zero_table, NARROW_LIMITS,
+from book import Generator, canary_list
+from makers import (
+    NARROW_LIMITS, SPECIAL_BITS, filling_place, full_number, good_limits,
+    inside_float_state, inside_state, one_in_each_block, random_table,
+    rest_of_cap, shifted, with_place, with_reading, zero_table,
 )
-from makers import SPECIAL_BITS, inside_float_state, random_table
 from model import (
     BLOCK_COUNT, FIRST_BLOCK, GROUPS, PRINTED, PUBLISHED_TABLE, parse_polynomial,
     place_of,
@@ -241,6 +242,22 @@ def check_refusal_order():
                                            -(1 << 63))) == 4
 
 
+def check_tables_at_cap():
+    """A full place and what fills the rest weigh the cap, and one more is refused."""
+    gen = Generator(104)
+    for place in range(FIRST_BLOCK, 311):
+        limits = good_limits(gen)
+        size, rest = full_number(limits, place), rest_of_cap(limits, place)
+        filling = filling_place(place)
+        lone = with_place(zero_table(limits), place, -size)
+        full = with_place(lone, filling, rest)
+        assert max(tables.weights(full)) == 9 * 10**18
+        assert tables.soundness(full) == tables.soundness(lone) == 0
+        assert tables.soundness(with_place(full, filling, -rest - 1)) == 4
+        assert tables.soundness(with_place(lone, place, size + 1)) == 4
+        assert tables.soundness(one_in_each_block(gen, limits, place % 3)) == 0
+
+
 def check_float_reads():
     """Floats that are whole agree with the whole-number read, others by rounding."""
     gen = Generator(103)
@@ -274,8 +291,8 @@ def check_line_program():
 CHECKS = (
     check_printed_text, check_values_1_to_7, check_values_8_and_9,
     check_values_10_and_11, check_values_12_and_13, check_float_arithmetic,
-    check_promised_moves, check_moves, check_refusal_order, check_float_reads,
-    check_line_program,
+    check_promised_moves, check_moves, check_refusal_order, check_tables_at_cap,
+    check_float_reads, check_line_program,
 )
 
 if __name__ == "__main__":

@@ -1,4 +1,4 @@
-// Cases drawn by a generator, and the lines that say what the library answers to them.
+// Runs one case through the library, and writes the line that says what it answers.
 pub mod lines;
 pub mod runs;
-pub mod words;
+pub mod usual;

@@ -9,12 +9,11 @@ use super::lines::put_numbers;
 use super::lines::put_text;
 use super::lines::put_word;
 use super::lines::start;
-use super::words::checksum;
-use super::words::signed;
-use layout::TABLE;
 use layout::VARIABLES;
 use layout::refusals::DONE;
 use std::num::wrapping_add_u64;
+use words::checksum;
+use words::signed;
 
 const CANARY: u64 = 1234567890123456789;
 
@@ -105,42 +104,36 @@ fn put_values(number: u64, out: &[i64], line: &mut [u8], at: usize) -> usize
 }
 
 // N publish OUTLEN NUMBER RESULT
-pub fn publish_case(out: &mut [i64], count: &mut u64, line: &mut [u8; ROOM]) {
+pub fn publish_case(out: &mut [i64], count: &mut u64) {
     let number = published(out);
-    let head = start(count, line);
-    let name = put_text(b" publish", line, head);
-    let given = put_word(out.len() as u64, line, name);
-    let end = put_written(number, out, line, given);
-    finish(line, end);
+    let mut line = [0u8; ROOM];
+    let head = start(count, &mut line);
+    let name = put_text(b" publish", &mut line, head);
+    let given = put_word(out.len() as u64, &mut line, name);
+    let end = put_written(number, out, &mut line, given);
+    finish(&mut line, end);
 }
 
 // N place I VALUE
-pub fn place_case(table: &[i64; TABLE], place: usize, count: &mut u64, line: &mut [u8; ROOM])
-    requires { ⌜ place < 311 ⌝ }
-{
-    let x = table[place];
-    let head = start(count, line);
-    let name = put_text(b" place", line, head);
-    let given = put_word(place as u64, line, name);
-    let end = put_number(x, line, given);
-    finish(line, end);
+pub fn place_case(place: usize, x: i64, count: &mut u64) {
+    let mut line = [0u8; ROOM];
+    let head = start(count, &mut line);
+    let name = put_text(b" place", &mut line, head);
+    let given = put_word(place as u64, &mut line, name);
+    let end = put_number(x, &mut line, given);
+    finish(&mut line, end);
 }
 
 // N read TABLE LENGTH OUTLEN a b x e z NUMBER RESULT
-pub fn read_case(
-    table: &[i64],
-    state: [i64; VARIABLES],
-    out: &mut [i64],
-    count: &mut u64,
-    line: &mut [u8; ROOM],
-) {
+pub fn read_case(table: &[i64], state: [i64; VARIABLES], out: &mut [i64], count: &mut u64) {
     let number = read(table, state, out);
-    let head = start(count, line);
-    let name = put_text(b" read", line, head);
-    let given = put_lengths(table, out, line, name);
-    let readings = put_numbers(&state, line, given);
-    let end = put_values(number, out, line, readings);
-    finish(line, end);
+    let mut line = [0u8; ROOM];
+    let head = start(count, &mut line);
+    let name = put_text(b" read", &mut line, head);
+    let given = put_lengths(table, out, &mut line, name);
+    let readings = put_numbers(&state, &mut line, given);
+    let end = put_values(number, out, &mut line, readings);
+    finish(&mut line, end);
 }
 
 // N move TABLE LENGTH OUTLEN VARIABLE SHIFT NUMBER RESULT; gives the number.
@@ -150,15 +143,15 @@ pub fn move_case(
     shift: i64,
     out: &mut [i64],
     count: &mut u64,
-    line: &mut [u8; ROOM],
 ) -> u64 {
     let number = moved(table, variable, shift, out);
-    let head = start(count, line);
-    let name = put_text(b" move", line, head);
-    let given = put_lengths(table, out, line, name);
-    let which = put_word(variable as u64, line, given);
-    let by = put_number(shift, line, which);
-    let end = put_written(number, out, line, by);
-    finish(line, end);
+    let mut line = [0u8; ROOM];
+    let head = start(count, &mut line);
+    let name = put_text(b" move", &mut line, head);
+    let given = put_lengths(table, out, &mut line, name);
+    let which = put_word(variable as u64, &mut line, given);
+    let by = put_number(shift, &mut line, which);
+    let end = put_written(number, out, &mut line, by);
+    finish(&mut line, end);
     number
 }

@@ -1,0 +1,118 @@
+// The largest move that a table takes, and tables whose weight is just the cap.
+ghost use Prim.Native.Nat.{_≤_, _<_};
+use super::terms::CAP;
+use super::terms::largest_within;
+use super::terms::term_at;
+use super::terms::weight_of;
+use layout::BLOCK;
+use layout::LIMITS;
+use layout::TABLE;
+use layout::XI_START;
+use layout::ZETA_START;
+use layout::refusals::DONE;
+use makers::plain::bare;
+use std::num::wrapping_sub_u64;
+use words::below;
+use words::minus;
+use words::signed;
+
+// The number of the given size and sign.
+pub fn with_sign(is_negative: bool, size: u64) -> i64 {
+    if is_negative {
+        return minus(0, signed(size));
+    }
+    signed(size)
+}
+
+// A number of the given size, of either sign.
+pub fn of_sign(draws: &mut u64, size: u64) -> i64 {
+    with_sign(below(draws, 2) == 1, size)
+}
+
+fn is_accepted(t: &[i64; TABLE], v: usize, shift: i64) -> bool {
+    let mut out = [0i64; TABLE];
+    tables::moving::move_datum(t, v, shift, &mut out) == DONE
+}
+
+// The largest size of an accepted move, by halving: a move by 4001 pushes any good limit out, and acceptance does not come back
+// as the size grows.
+pub fn last_accepted(t: &[i64; TABLE], v: usize, is_down: bool) -> u64 {
+    let mut accepted: u64 = 0;
+    let mut beyond: u64 = 4001;
+    while beyond - accepted > 1 {
+        let middle = (accepted + beyond) / 2;
+        if is_accepted(t, v, with_sign(is_down, middle)) {
+            accepted = middle;
+        } else {
+            beyond = middle;
+        }
+    }
+    accepted
+}
+
+// The largest number that a place of the table takes alone.
+pub fn full_number(t: &[i64; TABLE], place: usize) -> u64
+    requires { ⌜ 11 ≤ place ⌝ }
+{
+    largest_within(term_at(t, place), CAP)
+}
+
+// What the largest number leaves of the cap.
+pub fn rest_of_cap(t: &[i64; TABLE], place: usize) -> u64
+    requires { ⌜ 11 ≤ place ⌝ }
+{
+    wrapping_sub_u64(CAP, weight_of(term_at(t, place), full_number(t, place)))
+}
+
+// A place of the same block whose number weighs its own magnitude, in both pieces; never the given place.
+pub fn filling_place(place: usize) -> usize
+    requires { ⌜ (11 ≤ place) × (place < 311) ⌝ }
+    ensures { λ r. ⌜ r < 311 ⌝ }
+{
+    let block = (place - LIMITS) / BLOCK;
+    let start = LIMITS + BLOCK * block;
+    if place == start + XI_START {
+        return start + ZETA_START;
+    }
+    start + XI_START
+}
+
+// A size near the largest: in the first of three ways a part of it, in the second one of its upper half, and in the last itself.
+fn size_near(draws: &mut u64, full: u64, way: usize) -> u64 {
+    let part = below(draws, 8) as u64;
+    let less = words::next(draws) % (full / 2 + 1);
+    match way {
+        0 => full / (part + 1),
+        1 => wrapping_sub_u64(full, less),
+        _ => full,
+    }
+}
+
+// The place in its block at which a block has its number.
+fn chosen(own: usize, same: usize, way: usize) -> usize
+    requires { ⌜ (own < 50) × (same < 50) ⌝ }
+    ensures { λ r. ⌜ r < 50 ⌝ }
+{
+    if way == 0 {
+        return own;
+    }
+    same
+}
+
+// A table with one number in each block, in the first way at places of their own, else all at the same place of their blocks.
+// Each block is within the cap, and in the first two ways the largest numbers of all blocks, or the bits of all together, are
+// mostly not.
+pub fn one_in_each_block(draws: &mut u64, limits: [i64; LIMITS], way: usize) -> [i64; TABLE] {
+    let mut t = bare(limits);
+    let same = below(draws, BLOCK);
+    let mut start = LIMITS;
+    while start < TABLE {
+        let own = below(draws, BLOCK);
+        let place = start + chosen(own, same, way);
+        let size = size_near(draws, full_number(&t, place), way);
+        let number = of_sign(draws, size);
+        t[place] = number;
+        start += BLOCK;
+    }
+    t
+}
