@@ -1,36 +1,44 @@
--- `printing::places` meets its contract. The loop's invariant: the places counted, less the first, and those of the rest are those of the number.
--- Assumes nothing.
-use mathlib.Core.Path.{_≡_}
-use Prim.Native.Nat.{_+_}
+-- `printing::places` meets its contract: dividing by a power of ten takes as many digits away. Assumes nothing.
+use mathlib.Core.Path.{_∙_}
 use native.Mathlib.Omega.{arith}
+use Rattle.printing.proofs.Digits.{length-behind, decimal-fits}
 use borrow.Author.Needs.{needs}
-use lib.ListN.{length}
-use Rattle.printing.specs.Spell.{decimal}
-use Rattle.printing.proofs.Digits.{length-one, length-more, decimal-fits}
 use Rattle.printing.proofs.places.Statement.{statement}
 use Rattle.printing.proofs.places.Tie as tie
 
-abbrev Inv-loop : tie.InvT-loop
-Inv-loop n places₀ rest₀ places rest = places + length (decimal rest) ≡ length (decimal n) + 1
+few-places-requires : tie.Need-few-places-requires
+few-places-requires c κs = search needs
 
-abbrev μ-loop : tie.MeasureT-loop
-μ-loop n places₀ rest₀ places rest = rest
+returns : tie.Need-returns
+returns c = search needs
 
-loop-holds : tie.Need-loop-holds Inv-loop μ-loop
-loop-holds c = omega arith
+few-places-requires-2 : tie.Need-few-places-requires-2
+few-places-requires-2 c κs = search needs
 
-add-places : tie.Need-add-places Inv-loop μ-loop
-add-places c =
-    omega (arith, c .before .loop .inv, length-more (c .before .loop .rest) (c .loop-test .taken), decimal-fits (c .before .before .args .n) (c .before .before .fits .n .fits))
+add-result : tie.Need-add-result
+add-result c = omega (arith, length-behind 8 (c .before .before .before .args .n) (omega arith), decimal-fits (c .before .before .before .args .n) (c .before .before .before .fits .n .fits), c .few-places2 .ensures)
 
-loop-less : tie.Need-loop-less Inv-loop μ-loop
-loop-less c = search needs
+returns-2 : tie.Need-returns-2
+returns-2 c = omega (arith, length-behind 8 (c .before .before .before .args .n) (omega arith), c .few-places2 .ensures)
 
-loop-again : tie.Need-loop-again Inv-loop μ-loop
-loop-again c = omega (arith, c .before .loop .inv, length-more (c .before .loop .rest) (c .loop-test .taken))
+few-places-requires-3 : tie.Need-few-places-requires-3
+few-places-requires-3 c κs = search needs
 
-returns : tie.Need-returns Inv-loop μ-loop
-returns c = omega (arith, c .before .loop .inv, length-one (c .before .loop .rest) (c .loop-test .left))
+add-result-2 : tie.Need-add-result-2
+add-result-2 c = omega (arith, length-behind 16 (c .before .before .before .args .n) (omega arith), decimal-fits (c .before .before .before .args .n) (c .before .before .before .fits .n .fits), c .few-places3 .ensures)
+
+returns-3 : tie.Need-returns-3
+returns-3 c = omega (arith, length-behind 16 (c .before .before .before .args .n) (omega arith), c .few-places3 .ensures)
 
 pub places-spec : {M : Type 1} → statement M
-places-spec = tie.close (tie.spec Inv-loop μ-loop loop-holds add-places loop-less loop-again returns)
+places-spec =
+    tie.close
+    (tie.spec
+    few-places-requires
+    returns
+    few-places-requires-2
+    add-result
+    returns-2
+    few-places-requires-3
+    add-result-2
+    returns-3)
