@@ -1,6 +1,9 @@
--- Words that hold several numbers side by side.
---   hundreds-of-two, tens-of-four   a mask takes the quotients out of one product
---   bytes-of-four, bytes-of-eight   the bytes of a word
+-- Words that hold several numbers side by side, and their digits as bytes. A mask takes the quotients of all of them out of one product.
+--   hundreds-of-two                            two numbers of four digits divided by a hundred at once
+--   bytes-of-four, bytes-of-eight, digit       the bytes of a word
+--   four-covered, four-wide, four-word         the word of four digits: what is taken away is there, fits, and leaves the digits
+--   split-pairs, split-fits                    the pairs of eight digits from their hundreds
+--   pairs-wide, tens-covered, tens-wide, room, eight-word   the word of eight digits, as that of four
 use mathlib.Core.Path.{_≡_, sym, ap, ap₂, subst, _∙_}
 use mathlib.Core.List.{List, [], _∷_, _++_}
 use Prim.Native.Nat.{ℕ, _+_, _*_, _-_, _/_, _%_, _^_, _<_, _≤_}
@@ -9,6 +12,7 @@ use native.Mathlib.Omega.{arith}
 use lib.Bits.{bitAnd, and-block, and-mask}
 use Rattle.printing.specs.Groups.{four, pairs, packed}
 
+-- ════ quotients of numbers side by side
 -- a mask whose lowest part has k bits, of which j are set
 part : (j k m above : ℕ) → 2 ^ j ≤ 2 ^ k → bitAnd m (above * 2 ^ k + (2 ^ j - 1)) ≡ bitAnd (m / 2 ^ k) above * 2 ^ k + m % 2 ^ k % 2 ^ j
 part j k m above h =
@@ -46,7 +50,15 @@ tenth x others above h =
     ∙ part 4 16 (x / 10 + 64 * (others * 103)) above (omega arith)
     ∙ ap₂ (λ a b. bitAnd a above * 65536 + b) upper lower
 
-pub tens-of-four : (p q r s : ℕ) → p < 100 → q < 100 → r < 100 → s < 100 → bitAnd ((p + 65536 * (q + 65536 * (r + 65536 * s))) * 103 / 1024) 4222189076152335 ≡ p / 10 + 65536 * (q / 10 + 65536 * (r / 10 + 65536 * (s / 10)))
+tens-of-two : (p q : ℕ) → p < 100 → q < 100 → bitAnd ((p + 65536 * q) * 103 / 1024) 983055 ≡ p / 10 + 65536 * (q / 10)
+tens-of-two p q hp hq =
+    let last : q * 103 / 1024 ≡ q / 10 = omega arith in
+    let small : q / 10 % 16 ≡ q / 10 = omega arith in
+    tenth p q 15 hp
+    ∙ ap (λ a. a * 65536 + p / 10) (and-mask (q * 103 / 1024) 4 ∙ ap (λ a. a % 16) last ∙ small)
+    ∙ omega arith
+
+tens-of-four : (p q r s : ℕ) → p < 100 → q < 100 → r < 100 → s < 100 → bitAnd ((p + 65536 * (q + 65536 * (r + 65536 * s))) * 103 / 1024) 4222189076152335 ≡ p / 10 + 65536 * (q / 10 + 65536 * (r / 10 + 65536 * (s / 10)))
 tens-of-four p q r s hp hq hr hs =
     let last : s * 103 / 1024 ≡ s / 10 = omega arith in
     let small : s / 10 % 16 ≡ s / 10 = omega arith in
@@ -56,7 +68,8 @@ tens-of-four p q r s hp hq hr hs =
     ∙ ap (λ a. ((a * 65536 + r / 10) * 65536 + q / 10) * 65536 + p / 10) (and-mask (s * 103 / 1024) 4 ∙ ap (λ a. a % 16) last ∙ small)
     ∙ omega arith
 
--- a byte of a word, and what stands above it
+-- ════ the bytes of a word
+-- a byte, and what stands above it
 byte : (w b above : ℕ) → b < 256 → w ≡ b + 256 * above → w % 256 ≡ b
 byte w b above h e = omega arith
 
@@ -108,14 +121,14 @@ pub digit : (n : ℕ) → 48 + n % 10 < 256
 digit n = omega arith
 
 -- ════ the digits of pairs as bytes
-abbrev pub tens : ℕ → ℕ
+abbrev tens : ℕ → ℕ
 tens n = n / 100 / 10 + 65536 * (n % 100 / 10)
 
 pair : (x : ℕ) → x < 100 → 256 * x ≡ 2559 * (x / 10) + (x / 10 + 256 * (x % 10))
 pair x h = omega arith
 
-pub four-word : (n : ℕ) → n < 10000 → 256 * pairs n + 808464432 ≡ 2559 * tens n + packed (four n)
-four-word n h =
+digits-word : (n : ℕ) → n < 10000 → 256 * pairs n + 808464432 ≡ 2559 * tens n + packed (four n)
+digits-word n h =
     let a : n / 1000 % 10 ≡ n / 100 / 10 = omega arith in
     let c : n / 10 % 10 ≡ n % 100 / 10 = omega arith in
     let d : n % 10 ≡ n % 100 % 10 = omega arith in
@@ -130,6 +143,30 @@ four-below n h = omega arith
 -- a difference and what is added to it fit 64 bits where they would without what is taken away
 pub room : (a t k : ℕ) → a + k < 18446744073709551616 → a - t + k < 18446744073709551616
 room a t k h = omega arith
+
+tens-fit : (t m : ℕ) → t ≤ m → m < 18446744073709551616 → t < 18446744073709551616
+tens-fit t m h l = omega arith
+
+small-fits : (p : ℕ) → p < 6553600 → 256 * p < 18446744073709551616
+small-fits p h = omega arith
+
+rest : (a t k w : ℕ) → t ≤ a → a + k ≡ t + w → a - t + k ≡ w
+rest a t k w h e = omega arith
+
+module _ (n : ℕ) (h : n < 10000) where
+  tens-of-pairs : bitAnd (pairs n * 103 / 1024) 983055 ≡ tens n
+  tens-of-pairs = tens-of-two (n / 100) (n % 100) (omega arith) (omega arith)
+
+  pub four-covered : 2559 * bitAnd (pairs n * 103 / 1024) 983055 ≤ 256 * pairs n
+  four-covered = subst (λ t. 2559 * t ≤ 256 * pairs n) (sym tens-of-pairs) (four-covers n)
+
+  pub four-wide : 2559 * bitAnd (pairs n * 103 / 1024) 983055 < 18446744073709551616
+  four-wide = tens-fit (2559 * bitAnd (pairs n * 103 / 1024) 983055) (256 * pairs n) four-covered (small-fits (pairs n) (four-below n h))
+
+  pub four-word : 256 * pairs n - 2559 * bitAnd (pairs n * 103 / 1024) 983055 + 808464432 ≡ packed (four n)
+  four-word =
+      ap (λ t. 256 * pairs n - 2559 * t + 808464432) tens-of-pairs
+      ∙ rest (256 * pairs n) (2559 * tens n) 808464432 (packed (four n)) (four-covers n) (digits-word n h)
 
 -- ════ eight digits at once: x and y are the numbers of the first four and of the last
 unmix : (x y h : ℕ) → h ≡ x / 100 + 4294967296 * (y / 100) → x + 4294967296 * y - 100 * h ≡ x % 100 + 4294967296 * (y % 100)
@@ -159,9 +196,6 @@ packed-eight a b c d e f g h = omega arith
 
 fits : (p : ℕ) → p < 30000000000000000 → p < 18446744073709551616
 fits p h = omega arith
-
-tens-fit : (t m : ℕ) → t ≤ m → m < 18446744073709551616 → t < 18446744073709551616
-tens-fit t m h l = omega arith
 
 module _ (x y : ℕ) (hx : x < 10000) (hy : y < 10000) where
   both-below : pairs x + 4294967296 * pairs y < 30000000000000000
@@ -206,8 +240,8 @@ module _ (x y : ℕ) (hx : x < 10000) (hy : y < 10000) where
         (packed (four y))
         (four-covers x)
         (four-covers y)
-        (four-word x hx)
-        (four-word y hy)
+        (digits-word x hx)
+        (digits-word y hy)
         ∙ packed-eight
         (48 + x / 1000 % 10)
         (48 + x / 100 % 10)

@@ -1,36 +1,22 @@
--- Bytes written from a place on, one after the other in either direction.
+-- Bytes written from a place on, one after the other.
 --   written-sets    what single stores leave
---   sets-behind     the last bytes may be stored first
---   sets-two, sets-four, sets-eight  stores one after the other
+--   sets-two, sets-four, sets-eight   stores at places that are sums
+--   stored-behind   bytes stored behind bytes
 --   written-cons    bytes written behind a byte that is stored
 --   written-append  bytes written behind bytes
 --   length-written  the output is as long as it was
-use mathlib.Core.Path.{_≡_, refl, sym, ap, ap₂, _∙_}
+use mathlib.Core.Path.{_≡_, sym, ap, ap₂, _∙_}
 use mathlib.Core.List.{List, [], _∷_, _++_}
-use Prim.Native.Nat.{ℕ, suc, _+_, _<_, _≤_}
+use Prim.Native.Nat.{ℕ, suc, _+_, _≤_}
 use native.Mathlib.Nat.{add-zero}
 use native.Mathlib.Numerals.{add-one}
 use native.Mathlib.Omega.{arith}
 use lib.ListN.{length, length-append, set, length-set}
-use lib.Seq.{sets, sets-eq, set-comm, length-sets}
+use lib.Seq.{sets, sets-eq, length-sets}
 use Rattle.printing.specs.Spell.{written}
 
 pub written-sets : (out : List ℕ) (at : ℕ) (bytes : List ℕ) → at + length bytes ≤ length out → sets out at bytes ≡ written out at bytes
 written-sets out at bytes h = sets-eq bytes out at h
-
-set-before : (out : List ℕ) (i j b : ℕ) (bytes : List ℕ) → i < j → set (sets out j bytes) i b ≡ sets (set out i b) j bytes
-set-before out i j b [] h = refl
-set-before out i j b (x ∷ bytes) h =
-    set-before (set out j x) i (suc j) b bytes (omega arith)
-    ∙ ap (λ l. sets l (suc j) bytes) (set-comm out j i x b (λ e. omega arith))
-
-pub sets-behind : (out : List ℕ) (at : ℕ) (xs ys : List ℕ) → sets (sets out (at + length xs) ys) at xs ≡ sets out at (xs ++ ys)
-sets-behind out at [] ys = ap (λ i. sets out i ys) (add-zero at)
-sets-behind out at (x ∷ xs) ys =
-    let next : at + suc (length xs) ≡ suc at + length xs = omega arith in
-    ap (λ l. sets l (suc at) xs) (set-before out at (at + suc (length xs)) x ys (omega arith))
-    ∙ ap (λ i. sets (sets (set out at x) i ys) (suc at) xs) next
-    ∙ sets-behind (set out at x) (suc at) xs ys
 
 pub sets-two : (out : List ℕ) (at a b : ℕ) → set (set out at a) (at + 1) b ≡ sets out at (a ∷ b ∷ [])
 sets-two out at a b = ap (λ i. set (set out at a) i b) (add-one at)
@@ -68,6 +54,9 @@ sets-append out at [] ys = ap (λ i. sets out i ys) (add-zero at)
 sets-append out at (x ∷ xs) ys =
     let next : at + suc (length xs) ≡ suc at + length xs = omega arith in
     ap (λ i. sets (sets (set out at x) (suc at) xs) i ys) next ∙ sets-append (set out at x) (suc at) xs ys
+
+pub stored-behind : (out : List ℕ) (at : ℕ) (xs ys : List ℕ) {mid end : List ℕ} {i : ℕ} → i ≡ at + length xs → mid ≡ sets out at xs → end ≡ sets mid i ys → end ≡ sets out at (xs ++ ys)
+stored-behind out at xs ys p m e = e ∙ ap₂ (λ l j. sets l j ys) m p ∙ sets-append out at xs ys
 
 pub length-written : (out : List ℕ) (at : ℕ) (bytes : List ℕ) → at + length bytes ≤ length out → length (written out at bytes) ≡ length out
 length-written out at bytes h = ap length (sym (written-sets out at bytes h)) ∙ length-sets out at bytes

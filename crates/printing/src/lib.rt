@@ -7,58 +7,14 @@ ghost use lib.Seq.{sets};
 ghost use Rattle.printing.specs.Groups.{four, eight, pairs, packed};
 ghost use Rattle.printing.specs.Spell.{decimal, spell, written};
 
-// How many digits a number of at most eight has. Comparisons are cheaper than dividing the digits away.
-fn few_places(n: u64) -> usize
-    requires { ⌜ n < 100000000 ⌝ }
-    ensures { λ r. ⌜ r ≡ length (decimal n) ⌝ }
-{
-    if n < 10_000 {
-        if n < 100 {
-            if n < 10 {
-                return 1;
-            }
-            return 2;
-        }
-        if n < 1_000 {
-            return 3;
-        }
-        return 4;
-    }
-    if n < 1_000_000 {
-        if n < 100_000 {
-            return 5;
-        }
-        return 6;
-    }
-    if n < 10_000_000 {
-        return 7;
-    }
-    8
-}
-
-// How many digits a number has.
-fn places(n: u64) -> usize
-    ensures { λ r. ⌜ r ≡ length (decimal n) ⌝ }
-{
-    if n < 100_000_000 {
-        return few_places(n);
-    }
-    if n < 10_000_000_000_000_000 {
-        return 8 + few_places(n / 100_000_000);
-    }
-    16 + few_places(n / 10_000_000_000_000_000)
-}
-
 // The four digits of a number as the bytes of one word, the first lowest. The two bytes of a pair of digits, whose number is
 // 10a + b, are a + 256b = 256(10a + b) - 2559a.
 fn four_bytes(n: u64) -> u64
     requires { ⌜ n < 10000 ⌝ }
     ensures { λ r. ⌜ r ≡ packed (four n) ⌝ }
 {
-    let high = n / 100;
-    let low = n % 100;
-    let pairs = high + 65_536 * low;
-    let tens = high / 10 + 65_536 * (low / 10);
+    let pairs = n / 100 + 65_536 * (n % 100);
+    let tens = pairs * 103 / 1_024 & 0x000f_000f;
     256 * pairs - 2_559 * tens + 0x3030_3030
 }
 
@@ -121,60 +77,64 @@ fn put_two(n: u64, out: &mut [u8], at: usize)
     out[at + 1] = b'0' + (n % 10) as u8;
 }
 
-// The digits of a number of at most four from the place `at` on.
-fn put_few(n: u64, out: &mut [u8], at: usize)
+// The digits of a number of at most four from the place `at` on; gives the place behind them.
+fn put_few(n: u64, out: &mut [u8], at: usize) -> usize
     requires { ⌜ (n < 10000) × (at + length (decimal n) ≤ length (now out)) ⌝ }
-    ensures { λ r. ⌜ now (out .exit) ≡ sets (now (out .entry)) at (decimal n) ⌝ }
-{
-    if n >= 1_000 {
-        put_four(n, out, at);
-        return;
-    }
-    if n >= 100 {
-        out[at] = b'0' + (n / 100) as u8;
-        put_two(n % 100, out, at + 1);
-        return;
-    }
-    if n >= 10 {
-        put_two(n, out, at);
-        return;
-    }
-    out[at] = b'0' + n as u8;
-}
-
-// The digits of a number of at most eight from the place `at` on; `end` is the place behind them.
-fn put_short(n: u64, out: &mut [u8], at: usize, end: usize)
-    requires { ⌜ (n < 100000000) × (end ≡ at + length (decimal n)) × (end ≤ length (now out)) ⌝ }
-    ensures { λ r. ⌜ now (out .exit) ≡ sets (now (out .entry)) at (decimal n) ⌝ }
-{
-    if n < 10_000 {
-        put_few(n, out, at);
-        return;
-    }
-    put_four(n % 10_000, out, end - 4);
-    put_few(n / 10_000, out, at);
-}
-
-// The digits of a number from the place `at` on, the last eight first; gives the place behind them.
-pub fn put_digits(n: u64, out: &mut [u8], at: usize) -> usize
-    requires { ⌜ at + length (decimal n) ≤ length (now out) ⌝ }
     ensures place { λ r. ⌜ r ≡ at + length (decimal n) ⌝ }
-    ensures output { λ r. ⌜ now (out .exit) ≡ written (now (out .entry)) at (decimal n) ⌝ }
+    ensures output { λ r. ⌜ now (out .exit) ≡ sets (now (out .entry)) at (decimal n) ⌝ }
 {
     if n < 10 {
         out[at] = b'0' + n as u8;
         return at + 1;
     }
-    let end = at + places(n);
-    let mut i = end;
-    let mut rest = n;
-    while rest >= 100_000_000 {
-        i -= 8;
-        put_eight(rest % 100_000_000, out, i);
-        rest /= 100_000_000;
+    if n < 100 {
+        put_two(n, out, at);
+        return at + 2;
     }
-    put_short(rest, out, at, i);
-    end
+    if n < 1_000 {
+        out[at] = b'0' + (n / 100) as u8;
+        put_two(n % 100, out, at + 1);
+        return at + 3;
+    }
+    put_four(n, out, at);
+    at + 4
+}
+
+// The digits of a number of at most eight from the place `at` on; gives the place behind them.
+fn put_short(n: u64, out: &mut [u8], at: usize) -> usize
+    requires { ⌜ (n < 100000000) × (at + length (decimal n) ≤ length (now out)) ⌝ }
+    ensures place { λ r. ⌜ r ≡ at + length (decimal n) ⌝ }
+    ensures output { λ r. ⌜ now (out .exit) ≡ sets (now (out .entry)) at (decimal n) ⌝ }
+{
+    if n < 10_000 {
+        return put_few(n, out, at);
+    }
+    let i = put_few(n / 10_000, out, at);
+    put_four(n % 10_000, out, i);
+    i + 4
+}
+
+// The digits of a number from the place `at` on; gives the place behind them. The first group is as long as it is, so that no
+// digit has to be counted, and each further group has eight digits.
+pub fn put_digits(n: u64, out: &mut [u8], at: usize) -> usize
+    requires { ⌜ at + length (decimal n) ≤ length (now out) ⌝ }
+    ensures place { λ r. ⌜ r ≡ at + length (decimal n) ⌝ }
+    ensures output { λ r. ⌜ now (out .exit) ≡ written (now (out .entry)) at (decimal n) ⌝ }
+{
+    if n < 100_000_000 {
+        return put_short(n, out, at);
+    }
+    let high = n / 100_000_000;
+    let low = n % 100_000_000;
+    if high < 100_000_000 {
+        let i = put_short(high, out, at);
+        put_eight(low, out, i);
+        return i + 8;
+    }
+    let i = put_few(high / 100_000_000, out, at);
+    put_eight(high % 100_000_000, out, i);
+    put_eight(low, out, i + 8);
+    i + 16
 }
 
 // A number from the place `at` on; gives the place behind it. The longest is the least i64, a minus and 19 digits.

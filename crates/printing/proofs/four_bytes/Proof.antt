@@ -1,7 +1,5 @@
 -- `printing::four_bytes` meets its contract. Assumes nothing.
-use Prim.Native.Nat.{_+_, _*_, _/_, _%_}
-use native.Mathlib.Omega.{arith}
-use Rattle.printing.proofs.Words.{four-word, room}
+use Rattle.printing.proofs.Words.{four-covered, four-wide, four-word}
 use borrow.Author.Needs.{needs}
 use Rattle.printing.proofs.four_bytes.Statement.{statement}
 use Rattle.printing.proofs.four_bytes.Tie as tie
@@ -15,34 +13,22 @@ add-pairs c = search needs
 mul-tens : tie.Need-mul-tens
 mul-tens c = search needs
 
-add-tens : tie.Need-add-tens
-add-tens c = search needs
-
 mul-result : tie.Need-mul-result
 mul-result c = search needs
 
 mul-result-2 : tie.Need-mul-result-2
-mul-result-2 c = search needs
+mul-result-2 c = record { fits = four-wide (c .args .n) (c .pre) }
 
 sub-result : tie.Need-sub-result
-sub-result c = search needs
+sub-result c = four-covered (c .args .n) (c .pre)
 
 add-result : tie.Need-add-result
-add-result c = let n = c .args .n in record { fits = room (256 * (n / 100 + 65536 * (n % 100))) (2559 * (n / 100 / 10 + 65536 * (n % 100 / 10))) 808464432 (omega arith) }
+add-result c = search needs
 
 returns : tie.Need-returns
-returns c = omega (arith, four-word (c .args .n) (c .pre))
+returns c = four-word (c .args .n) (c .pre)
 
 pub four-bytes-spec : {M : Type 1} → statement M
 four-bytes-spec =
     tie.close
-    (tie.spec
-    mul-pairs
-    add-pairs
-    mul-tens
-    add-tens
-    mul-result
-    mul-result-2
-    sub-result
-    add-result
-    returns)
+    (tie.spec mul-pairs add-pairs mul-tens mul-result mul-result-2 sub-result add-result returns)

@@ -1,117 +1,110 @@
--- `printing::put_digits` meets its contract. The loop's invariant: with the digits of the rest stored, the output is what the whole number leaves.
--- Assumes nothing.
-use mathlib.Core.Path.{_≡_, refl, sym, ap, ap₂, _∙_}
-use Prim.Native.Nat.{_+_, _-_, _/_, _%_, _≤_}
+-- `printing::put_digits` meets its contract: the last eight digits stand behind the others, and the eight before them as well where there are more
+-- than sixteen. Assumes nothing.
+use mathlib.Core.Path.{_≡_, sym, ap, _∙_}
+use Prim.Native.Nat.{_+_, _/_, _%_, _≤_}
 use native.Mathlib.Omega.{arith}
-use lib.ListN.{length, set, length-set}
+use lib.ListN.{length}
 use lib.Seq.{sets}
 use Rattle.printing.specs.Groups.{eight}
 use Rattle.printing.specs.Spell.{decimal}
-use Rattle.printing.proofs.Digits.{decimal-one, eight-behind, length-one, length-behind}
-use Rattle.printing.proofs.Writing.{written-sets, sets-behind}
+use Rattle.printing.proofs.Digits.{eight-behind, length-behind}
+use Rattle.printing.proofs.Writing.{written-sets, stored-behind}
 use borrow.Author.Needs.{needs}
 use Rattle.printing.proofs.put_digits.Statement.{statement}
 use Rattle.printing.proofs.put_digits.Tie as tie
 
-abbrev Inv-loop : tie.InvT-loop
-Inv-loop n out₀ at end i₀ rest₀ out i rest = (i ≡ at + length (decimal rest)) × (i ≤ length out₀) × (length out ≡ length out₀) × (sets out at (decimal rest) ≡ sets out₀ at (decimal n))
+put-short-requires : tie.Need-put-short-requires
+put-short-requires c κs = search needs
 
-abbrev μ-loop : tie.MeasureT-loop
-μ-loop n out₀ at end i₀ rest₀ out i rest = rest
-
-cast-out : tie.Need-cast-out Inv-loop μ-loop
-cast-out c = search needs
-
-add-out : tie.Need-add-out Inv-loop μ-loop
-add-out c = search needs
-
-slice-write-out : tie.Need-slice-write-out Inv-loop μ-loop
-slice-write-out c = omega (arith, length-one (c .before .before .args .n) (c .if1 .taken))
-
-add-result : tie.Need-add-result Inv-loop μ-loop
-add-result c = omega (arith, length-one (c .before .before .args .n) (c .if1 .taken))
-
-same-length : tie.Need-same-length Inv-loop μ-loop
+same-length : tie.Need-same-length
 same-length c = search needs
 
-returns : tie.Need-returns Inv-loop μ-loop
+returns : tie.Need-returns
 returns c =
-    let a = c .before .before .args in
-    let h : a .n % 10 ≡ a .n = omega arith in
-    let e = decimal-one (a .n) (c .if1 .taken) in (
-      omega (arith, length-one (a .n) (c .if1 .taken)),
-      ap (λ d. set (a .out .now) (a .at) (48 + d)) (sym h)
-          ∙ ap (sets (a .out .now) (a .at)) (sym e)
-          ∙ written-sets (a .out .now) (a .at) (decimal (a .n)) (c .before .before .pre),
-    )
+    let a = c .before .before .before .before .before .before .args in
+    (c .before .before .put-short .ensures .0, c .before .before .put-short .ensures .1 ∙ written-sets (a .out .now) (a .at) (decimal (a .n)) (c .before .before .before .before .before .before .pre))
 
-places-requires : tie.Need-places-requires Inv-loop μ-loop
-places-requires c κs = search needs
+put-short-requires-2 : tie.Need-put-short-requires-2
+put-short-requires-2 c κs = omega (arith, c .before .before .before .before .pre, length-behind 8 (c .before .before .before .before .args .n) (omega arith))
 
-add-end : tie.Need-add-end Inv-loop μ-loop
-add-end c = omega (arith, c .places .ensures, c .before .before .before .pre)
+put-eight-requires : tie.Need-put-eight-requires
+put-eight-requires c κs = omega (arith, c .before .before .before .before .before .before .before .before .pre, c .before .before .before .put-short2 .kept .1 .0, c .before .before .before .put-short2 .ensures .0, length-behind 8 (c .before .before .before .before .before .before .before .before .args .n) (omega arith))
 
-loop-holds : tie.Need-loop-holds Inv-loop μ-loop
-loop-holds c = (ap (λ k. c .before .before .before .args .at + k) (c .places .ensures), omega (arith, c .places .ensures, c .before .before .before .pre), refl, refl)
+add-result : tie.Need-add-result
+add-result c = omega (arith, c .before .before .before .before .before .before .before .before .before .before .before .pre, c .before .before .before .before .before .before .put-short2 .ensures .0, length-behind 8 (c .before .before .before .before .before .before .before .before .before .before .before .args .n) (omega arith))
 
-sub-i : tie.Need-sub-i Inv-loop μ-loop
-sub-i c = omega (arith, c .before .loop .inv .0, length-behind 8 (c .before .loop .rest) (c .loop-test .taken))
+same-length-2 : tie.Need-same-length-2
+same-length-2 c = search needs
 
-put-eight-requires : tie.Need-put-eight-requires Inv-loop μ-loop
-put-eight-requires c κs = omega (arith, c .before .before .loop .inv .0, c .before .before .loop .inv .1, c .before .before .loop .inv .2, length-behind 8 (c .before .before .loop .rest) (c .before .loop-test .taken))
-
-loop-less : tie.Need-loop-less Inv-loop μ-loop
-loop-less c = search needs
-
-loop-again : tie.Need-loop-again Inv-loop μ-loop
-loop-again c =
-    let l = c .before .before .before .before .before .loop in
-    let a = c .before .before .before .before .before .before .before .before .before .args in
-    let h = c .before .before .before .before .loop-test .taken in
-    let e : l .i - 8 ≡ a .at + length (decimal (l .rest / 100000000)) = omega (arith, l .inv .0, length-behind 8 (l .rest) h) in (
-      e,
-      omega (arith, l .inv .1),
-      c .before .before .put-eight .kept .1 .0 ∙ l .inv .2,
-      ap (λ o. sets o (a .at) (decimal (l .rest / 100000000))) (c .before .before .put-eight .ensures)
-          ∙ ap (λ j. sets (sets (l .out) j (eight (l .rest % 100000000))) (a .at) (decimal (l .rest / 100000000))) e
-          ∙ sets-behind (l .out) (a .at) (decimal (l .rest / 100000000)) (eight (l .rest % 100000000))
-          ∙ ap (sets (l .out) (a .at)) (sym (eight-behind (l .rest) h))
-          ∙ l .inv .3,
-    )
-
-put-short-requires : tie.Need-put-short-requires Inv-loop μ-loop
-put-short-requires c κs = (c .before .loop-test .left, c .before .before .loop .inv .0, omega (arith, c .before .before .loop .inv .1, c .before .before .loop .inv .2))
-
-same-length-2 : tie.Need-same-length-2 Inv-loop μ-loop
-same-length-2 c = c .before .before .put-short .kept .1 .0 ∙ c .before .before .before .before .before .loop .inv .2
-
-returns-2 : tie.Need-returns-2 Inv-loop μ-loop
+returns-2 : tie.Need-returns-2
 returns-2 c =
-    let l = c .before .before .before .before .before .loop in
-    let a = c .before .before .before .before .before .before .before .before .before .args in (
-      ap (λ k. a .at + k) (c .before .before .before .before .before .before .places .ensures),
-      c .before .before .put-short .ensures ∙ l .inv .3 ∙ written-sets (a .out .now) (a .at) (decimal (a .n)) (c .before .before .before .before .before .before .before .before .before .pre),
+    let a = c .before .before .before .before .before .before .before .before .before .before .before .args in
+    let first = c .before .before .before .before .before .before .put-short2 in
+    let h : 100000000 ≤ a .n = omega arith in (
+      omega (arith, first .ensures .0, length-behind 8 (a .n) h),
+      stored-behind (a .out .now) (a .at) (decimal (a .n / 100000000)) (eight (a .n % 100000000)) (first .ensures .0) (first .ensures .1) (c .before .before .put-eight .ensures)
+          ∙ ap (sets (a .out .now) (a .at)) (sym (eight-behind (a .n) h))
+          ∙ written-sets (a .out .now) (a .at) (decimal (a .n)) (c .before .before .before .before .before .before .before .before .before .before .before .pre),
+    )
+
+put-few-requires : tie.Need-put-few-requires
+put-few-requires c κs = omega (arith, c .before .before .before .before .pre, c .before .before .before .before .fits .n .fits, length-behind 8 (c .before .before .before .before .args .n) (omega arith), length-behind 8 (c .before .before .before .before .args .n / 100000000) (omega arith))
+
+put-eight-requires-2 : tie.Need-put-eight-requires-2
+put-eight-requires-2 c κs = omega (arith, c .before .before .before .before .before .before .before .before .pre, c .before .before .before .put-few .kept .1 .0, c .before .before .before .put-few .ensures .0, length-behind 8 (c .before .before .before .before .before .before .before .before .args .n) (omega arith), length-behind 8 (c .before .before .before .before .before .before .before .before .args .n / 100000000) (omega arith))
+
+add-put-eight : tie.Need-add-put-eight
+add-put-eight c = omega (arith, c .before .before .before .before .before .before .before .before .before .before .before .before .pre, c .before .before .before .before .before .before .before .put-few .ensures .0, length-behind 8 (c .before .before .before .before .before .before .before .before .before .before .before .before .args .n) (omega arith), length-behind 8 (c .before .before .before .before .before .before .before .before .before .before .before .before .args .n / 100000000) (omega arith))
+
+put-eight-requires-3 : tie.Need-put-eight-requires-3
+put-eight-requires-3 c κs = omega (arith, c .before .before .before .before .before .before .before .before .before .before .before .before .pre, c .before .before .before .put-eight2 .kept .1 .0, c .before .before .before .before .before .before .before .put-few .kept .1 .0, c .before .before .before .before .before .before .before .put-few .ensures .0, length-behind 8 (c .before .before .before .before .before .before .before .before .before .before .before .before .args .n) (omega arith), length-behind 8 (c .before .before .before .before .before .before .before .before .before .before .before .before .args .n / 100000000) (omega arith))
+
+add-result-2 : tie.Need-add-result-2
+add-result-2 c = omega (arith, c .before .before .before .before .before .before .before .before .before .before .before .before .before .before .before .pre, c .before .before .before .before .before .before .before .before .before .before .put-few .ensures .0, length-behind 8 (c .before .before .before .before .before .before .before .before .before .before .before .before .before .before .before .args .n) (omega arith), length-behind 8 (c .before .before .before .before .before .before .before .before .before .before .before .before .before .before .before .args .n / 100000000) (omega arith))
+
+same-length-3 : tie.Need-same-length-3
+same-length-3 c = search needs
+
+returns-3 : tie.Need-returns-3
+returns-3 c =
+    let a = c .before .before .before .before .before .before .before .before .before .before .before .before .before .before .before .args in
+    let first = c .before .before .before .before .before .before .before .before .before .before .put-few in
+    let h : 100000000 ≤ a .n = omega arith in
+    let g : 100000000 ≤ a .n / 100000000 = omega arith in
+    let middle =
+    stored-behind
+    (a .out .now)
+    (a .at)
+    (decimal (a .n / 100000000 / 100000000))
+    (eight (a .n / 100000000 % 100000000))
+    (first .ensures .0)
+    (first .ensures .1)
+    (c .before .before .before .before .before .before .put-eight2 .ensures)
+    ∙ ap (sets (a .out .now) (a .at)) (sym (eight-behind (a .n / 100000000) g))
+    in
+    let i : first .result + 8 ≡ a .at + length (decimal (a .n / 100000000)) = omega (arith, first .ensures .0, length-behind 8 (a .n / 100000000) g) in (
+      omega (arith, first .ensures .0, length-behind 8 (a .n) h, length-behind 8 (a .n / 100000000) g),
+      stored-behind (a .out .now) (a .at) (decimal (a .n / 100000000)) (eight (a .n % 100000000)) i middle (c .before .before .put-eight3 .ensures)
+          ∙ ap (sets (a .out .now) (a .at)) (sym (eight-behind (a .n) h))
+          ∙ written-sets (a .out .now) (a .at) (decimal (a .n)) (c .before .before .before .before .before .before .before .before .before .before .before .before .before .before .before .pre),
     )
 
 pub put-digits-spec : {M : Type 1} → statement M
 put-digits-spec =
     tie.close
     (tie.spec
-    Inv-loop
-    μ-loop
-    cast-out
-    add-out
-    slice-write-out
-    add-result
+    put-short-requires
     same-length
     returns
-    places-requires
-    add-end
-    loop-holds
-    sub-i
+    put-short-requires-2
     put-eight-requires
-    loop-less
-    loop-again
-    put-short-requires
+    add-result
     same-length-2
-    returns-2)
+    returns-2
+    put-few-requires
+    put-eight-requires-2
+    add-put-eight
+    put-eight-requires-3
+    add-result-2
+    same-length-3
+    returns-3)
