@@ -2,6 +2,8 @@
 use mathlib.Core.Path.{_≡_, refl}
 use mathlib.Core.List.{[], _∷_, map}
 use lib.IntN.{pos, negℤ}
+use Prim.Native.Nat.{_+_, _*_}
+use Rattle.printing.specs.Groups.{four, eight, pairs, packed}
 use Rattle.printing.specs.Spell.{decimal, spell, written}
 
 -- 0, 7, 10, 100, 909
@@ -31,3 +33,11 @@ least = refl
 in-place : written (1 ∷ 2 ∷ 3 ∷ 4 ∷ 5 ∷ 6 ∷ []) 2 (spell (negℤ (pos 12))) ≡ 1 ∷ 2 ∷ 45 ∷ 49 ∷ 50 ∷ 6 ∷ []
 unfolding decimal
 in-place = refl
+
+-- 0042, 12340042, and the pairs 12 and 34
+groups : (four 42 ≡ 48 ∷ 48 ∷ 52 ∷ 50 ∷ []) × (eight 12_340_042 ≡ 49 ∷ 50 ∷ 51 ∷ 52 ∷ 48 ∷ 48 ∷ 52 ∷ 50 ∷ []) × (pairs 1234 ≡ 12 + 65_536 * 34)
+groups = (refl, refl, refl)
+
+-- the first byte is the lowest
+lowest-first : packed (1 ∷ 2 ∷ 3 ∷ []) ≡ 0x030201
+lowest-first = refl

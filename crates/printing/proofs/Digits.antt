@@ -1,12 +1,16 @@
 -- The decimal digits of a number, from its quotient and remainder by ten.
 --   decimal-one, decimal-more   a number below ten, and from ten on
+--   decimal-two, decimal-three, decimal-four   a number of so many digits
+--   two-behind, four-behind, eight-behind      a number of more digits than so many
+--   length-behind               dividing by a power of ten takes as many digits away
+--   length-between              how many digits a number between two powers of ten has
 --   decimal-short               how many digits a number below a power of ten has at most
 --   decimal-fits, spell-fits    how many bytes a number of 64 bits has at most
-use mathlib.Core.Path.{_≡_, refl, ap, _∙_}
-use mathlib.Core.List.{[], _∷_, _++_}
+use mathlib.Core.Path.{_≡_, refl, sym, ap, ap₂, _∙_}
+use mathlib.Core.List.{[], _∷_, _++_, append-assoc}
 use mathlib.Core.Bool.{Bool, true, false}
 use Prim.Native.Nat.{ℕ, zero, suc, _+_, _/_, _%_, _^_, _<_, _≤_}
-use native.Mathlib.Nat.{pow-suc}
+use native.Mathlib.Nat.{pow-suc, pow-succ', one-le-pow, div-one, div-lt-iff-lt-mul, div-div-eq-div-mul}
 use native.Mathlib.Omega.{arith}
 use borrow.Author.Tests.{leb-true, leb-false}
 use lib.Dec.{leb}
@@ -14,6 +18,7 @@ use lib.IntN.{ℤ, pos, negsuc}
 use lib.ListN.{length, length-append}
 use mir.Syntax.{w64}
 use mir.Val.{SFits}
+use Rattle.printing.specs.Groups.{four, eight}
 use Rattle.printing.specs.Spell.{digits, decimal, spell}
 
 -- any bound that is large enough gives the same digits
@@ -53,6 +58,73 @@ length-one n h = ap length (decimal-one n h)
 
 pub length-more : (n : ℕ) → 10 ≤ n → length (decimal n) ≡ length (decimal (n / 10)) + 1
 length-more n h = ap length (decimal-more n h) ∙ length-append (decimal (n / 10)) ((48 + n % 10) ∷ [])
+
+-- a digit more, by the quotient and the digit as they are written down
+last : (n q d : ℕ) → 10 ≤ n → q ≡ n / 10 → d ≡ n % 10 → decimal n ≡ decimal q ++ (48 + d) ∷ []
+last n q d h e f = decimal-more n h ∙ ap₂ (λ (m r : ℕ). decimal m ++ (48 + r) ∷ []) (sym e) (sym f)
+
+pub decimal-two : (n : ℕ) → 10 ≤ n → n < 100 → decimal n ≡ (48 + n / 10) ∷ (48 + n % 10) ∷ []
+decimal-two n h l =
+    decimal-more n h
+    ∙ ap (λ ds. ds ++ (48 + n % 10) ∷ []) (decimal-one (n / 10) (omega arith) ∙ ap (λ d. (48 + d) ∷ []) (omega arith))
+
+pub two-behind : (n : ℕ) → 100 ≤ n → decimal n ≡ decimal (n / 100) ++ (48 + n % 100 / 10) ∷ (48 + n % 10) ∷ []
+two-behind n h =
+    last n (n / 10) (n % 10) (omega arith) (omega arith) (omega arith)
+    ∙ ap (λ ds. ds ++ (48 + n % 10) ∷ []) (last (n / 10) (n / 100) (n % 100 / 10) (omega arith) (omega arith) (omega arith))
+    ∙ append-assoc (decimal (n / 100)) ((48 + n % 100 / 10) ∷ []) ((48 + n % 10) ∷ [])
+
+pub decimal-three : (n : ℕ) → 100 ≤ n → n < 1000 → decimal n ≡ (48 + n / 100) ∷ (48 + n % 100 / 10) ∷ (48 + n % 100 % 10) ∷ []
+decimal-three n h l =
+    two-behind n h
+    ∙ ap (λ ds. ds ++ (48 + n % 100 / 10) ∷ (48 + n % 10) ∷ []) (decimal-one (n / 100) (omega arith))
+    ∙ ap₂ (λ a b. (48 + a) ∷ (48 + n % 100 / 10) ∷ (48 + b) ∷ []) (omega arith) (omega arith)
+
+pub four-behind : (n : ℕ) → 10000 ≤ n → decimal n ≡ decimal (n / 10000) ++ four (n % 10000)
+four-behind n h =
+    let e : decimal (n / 100) ≡ decimal (n / 10000) ++ (48 + n % 10000 / 1000 % 10) ∷ (48 + n % 10000 / 100 % 10) ∷ [] =
+    two-behind (n / 100) (omega arith)
+    ∙ ap (λ q. decimal q ++ (48 + n / 100 % 100 / 10) ∷ (48 + n / 100 % 10) ∷ []) (omega arith)
+    ∙ ap₂ (λ a b. decimal (n / 10000) ++ (48 + a) ∷ (48 + b) ∷ []) (omega arith) (omega arith)
+    in
+    two-behind n (omega arith)
+    ∙ ap₂ (λ a b. decimal (n / 100) ++ (48 + a) ∷ (48 + b) ∷ []) (omega arith) (omega arith)
+    ∙ ap (λ ds. ds ++ (48 + n % 10000 / 10 % 10) ∷ (48 + n % 10000 % 10) ∷ []) e
+    ∙ append-assoc (decimal (n / 10000)) ((48 + n % 10000 / 1000 % 10) ∷ (48 + n % 10000 / 100 % 10) ∷ []) ((48 + n % 10000 / 10 % 10) ∷ (48 + n % 10000 % 10) ∷ [])
+
+pub eight-behind : (n : ℕ) → 100000000 ≤ n → decimal n ≡ decimal (n / 100000000) ++ eight (n % 100000000)
+eight-behind n h =
+    let quotient : n / 10000 / 10000 ≡ n / 100000000 = omega arith in
+    let upper : n / 10000 % 10000 ≡ n % 100000000 / 10000 = omega arith in
+    let lower : n % 10000 ≡ n % 100000000 % 10000 = omega arith in
+    four-behind n (omega arith)
+    ∙ ap (λ ds. ds ++ four (n % 10000)) (four-behind (n / 10000) (omega arith))
+    ∙ append-assoc (decimal (n / 10000 / 10000)) (four (n / 10000 % 10000)) (four (n % 10000))
+    ∙ ap₂ (λ q m. decimal q ++ (four m ++ four (n % 10000))) quotient upper
+    ∙ ap (λ m. decimal (n / 100000000) ++ (four (n % 100000000 / 10000) ++ four m)) lower
+
+pub decimal-four : (n : ℕ) → 1000 ≤ n → n < 10000 → decimal n ≡ four n
+decimal-four n h l =
+    two-behind n (omega arith)
+    ∙ ap (λ ds. ds ++ (48 + n % 100 / 10) ∷ (48 + n % 10) ∷ []) (decimal-two (n / 100) (omega arith) (omega arith))
+    ∙ ap₂ (λ a b. (48 + a) ∷ (48 + n / 100 % 10) ∷ (48 + b) ∷ (48 + n % 10) ∷ []) (omega arith) (omega arith)
+
+pub length-behind : (k n : ℕ) → 10 ^ k ≤ n → length (decimal n) ≡ k + length (decimal (n / 10 ^ k))
+length-behind zero n h = omega (arith, ap (λ m. length (decimal m)) (div-one n))
+length-behind (suc k) n h =
+    let power = pow-succ' 10 k in
+    let some = one-le-pow k 10 (omega arith) in
+    let ten : 10 ≤ n = omega arith in
+    let fewer : 10 ^ k ≤ n / 10 = omega arith in
+    let e : n / 10 / 10 ^ k ≡ n / 10 ^ suc k = div-div-eq-div-mul n 10 (10 ^ k) ∙ ap (λ d. n / d) (sym power) in
+    omega (arith, length-more n ten, length-behind k (n / 10) fewer, ap (λ m. length (decimal m)) e)
+
+pub length-between : (k n : ℕ) → 10 ^ k ≤ n → n < 10 ^ suc k → suc k ≡ length (decimal n)
+length-between k n h l =
+    let power = pow-succ' 10 k in
+    let some = one-le-pow k 10 (omega arith) in
+    let one : n / 10 ^ k < 10 = div-lt-iff-lt-mul some .1 (omega arith) in
+    omega (arith, length-behind k n h, length-one (n / 10 ^ k) one)
 
 short-more : (k n : ℕ) → ((m : ℕ) → m < 10 ^ suc k → length (decimal m) ≤ suc k) → n < 10 ^ suc (suc k) → (t : Bool) → leb 10 n ≡ t → length (decimal n) ≤ suc (suc k)
 short-more k n ih h true e =

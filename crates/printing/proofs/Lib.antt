@@ -1,3 +1,4 @@
 pub mod Controls
 pub mod Digits
+pub mod Words
 pub mod Writing

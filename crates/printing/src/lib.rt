@@ -1,45 +1,140 @@
 // Printing whole numbers in decimal, into an output that the caller lends.
 ghost use mathlib.Core.Path.{_≡_};
-ghost use Prim.Native.Nat.{_+_, _%_, _≤_};
+ghost use mathlib.Core.List.{[], _∷_};
+ghost use Prim.Native.Nat.{_+_, _*_, _/_, _%_, _<_, _≤_};
 ghost use lib.ListN.{length};
+ghost use lib.Seq.{sets};
+ghost use Rattle.printing.specs.Groups.{four, eight, pairs, packed};
 ghost use Rattle.printing.specs.Spell.{decimal, spell, written};
 
-// How many digits a number has.
-fn places(n: u64) -> usize
-    ensures { λ r. ⌜ r ≡ length (decimal n) ⌝ }
+// The four digits of a number as the bytes of one word, the first lowest. The two bytes of a pair of digits, whose number is
+// 10a + b, are a + 256b = 256(10a + b) - 2559a.
+fn four_bytes(n: u64) -> u64
+    requires { ⌜ n < 10000 ⌝ }
+    ensures { λ r. ⌜ r ≡ packed (four n) ⌝ }
 {
-    let mut places: usize = 1;
-    let mut rest = n;
-    while rest >= 10 {
-        rest /= 10;
-        places += 1;
+    let pairs = n / 100 + 65_536 * (n % 100);
+    let tens = pairs * 103 / 1_024 & 0x000f_000f;
+    256 * pairs - 2_559 * tens + 0x3030_3030
+}
+
+// The four pairs of digits of a number of eight, 16 bits apart, the first lowest. Two numbers below 10,000 that are 32 bits
+// apart are divided by 100 at once: for these a hundredth is 5,243 / 2^19, and the mask drops what the upper one leaves below.
+fn eight_pairs(n: u64) -> u64
+    requires { ⌜ n < 100000000 ⌝ }
+    ensures { λ r. ⌜ r ≡ pairs (n / 10000) + 4294967296 * pairs (n % 10000) ⌝ }
+{
+    let fours = n / 10_000 + 0x1_0000_0000 * (n % 10_000);
+    let hundreds = fours * 5_243 / 524_288 & 0x7f_0000_007f;
+    hundreds + 65_536 * (fours - 100 * hundreds)
+}
+
+// The eight digits of a number as the bytes of one word, the first lowest: as with four, and the four pairs are divided by ten
+// at once. For these a tenth is 103 / 2^10.
+fn eight_bytes(n: u64) -> u64
+    requires { ⌜ n < 100000000 ⌝ }
+    ensures { λ r. ⌜ r ≡ packed (eight n) ⌝ }
+{
+    let pairs = eight_pairs(n);
+    let tens = pairs * 103 / 1_024 & 0x000f_000f_000f_000f;
+    256 * pairs - 2_559 * tens + 0x3030_3030_3030_3030
+}
+
+// Eight digits from the place `at` on, zeros in front too. The eight stores become one of the word.
+fn put_eight(n: u64, out: &mut [u8], at: usize)
+    requires { ⌜ (n < 100000000) × (at + 8 ≤ length (now out)) ⌝ }
+    ensures { λ r. ⌜ now (out .exit) ≡ sets (now (out .entry)) at (eight n) ⌝ }
+{
+    let word = eight_bytes(n);
+    out[at] = (word % 256) as u8;
+    out[at + 1] = (word / 0x100 % 256) as u8;
+    out[at + 2] = (word / 0x1_0000 % 256) as u8;
+    out[at + 3] = (word / 0x100_0000 % 256) as u8;
+    out[at + 4] = (word / 0x1_0000_0000 % 256) as u8;
+    out[at + 5] = (word / 0x100_0000_0000 % 256) as u8;
+    out[at + 6] = (word / 0x1_0000_0000_0000 % 256) as u8;
+    out[at + 7] = (word / 0x100_0000_0000_0000 % 256) as u8;
+}
+
+// Four digits from the place `at` on, zeros in front too.
+fn put_four(n: u64, out: &mut [u8], at: usize)
+    requires { ⌜ (n < 10000) × (at + 4 ≤ length (now out)) ⌝ }
+    ensures { λ r. ⌜ now (out .exit) ≡ sets (now (out .entry)) at (four n) ⌝ }
+{
+    let word = four_bytes(n);
+    out[at] = (word % 256) as u8;
+    out[at + 1] = (word / 0x100 % 256) as u8;
+    out[at + 2] = (word / 0x1_0000 % 256) as u8;
+    out[at + 3] = (word / 0x100_0000 % 256) as u8;
+}
+
+// Two digits from the place `at` on, a zero in front too.
+fn put_two(n: u64, out: &mut [u8], at: usize)
+    requires { ⌜ (n < 100) × (at + 2 ≤ length (now out)) ⌝ }
+    ensures { λ r. ⌜ now (out .exit) ≡ sets (now (out .entry)) at ((48 + n / 10) ∷ (48 + n % 10) ∷ []) ⌝ }
+{
+    out[at] = b'0' + (n / 10) as u8;
+    out[at + 1] = b'0' + (n % 10) as u8;
+}
+
+// The digits of a number of at most four from the place `at` on; gives the place behind them.
+fn put_few(n: u64, out: &mut [u8], at: usize) -> usize
+    requires { ⌜ (n < 10000) × (at + length (decimal n) ≤ length (now out)) ⌝ }
+    ensures place { λ r. ⌜ r ≡ at + length (decimal n) ⌝ }
+    ensures output { λ r. ⌜ now (out .exit) ≡ sets (now (out .entry)) at (decimal n) ⌝ }
+{
+    if n < 10 {
+        out[at] = b'0' + n as u8;
+        return at + 1;
     }
-    places
+    if n < 100 {
+        put_two(n, out, at);
+        return at + 2;
+    }
+    if n < 1_000 {
+        out[at] = b'0' + (n / 100) as u8;
+        put_two(n % 100, out, at + 1);
+        return at + 3;
+    }
+    put_four(n, out, at);
+    at + 4
 }
 
-// The last digit of a number.
-fn last_digit(n: u64) -> u8
-    ensures { λ r. ⌜ r ≡ 48 + n % 10 ⌝ }
+// The digits of a number of at most eight from the place `at` on; gives the place behind them.
+fn put_short(n: u64, out: &mut [u8], at: usize) -> usize
+    requires { ⌜ (n < 100000000) × (at + length (decimal n) ≤ length (now out)) ⌝ }
+    ensures place { λ r. ⌜ r ≡ at + length (decimal n) ⌝ }
+    ensures output { λ r. ⌜ now (out .exit) ≡ sets (now (out .entry)) at (decimal n) ⌝ }
 {
-    b'0' + (n % 10) as u8
+    if n < 10_000 {
+        return put_few(n, out, at);
+    }
+    let i = put_few(n / 10_000, out, at);
+    put_four(n % 10_000, out, i);
+    i + 4
 }
 
-// The digits of a number from the place `at` on, the last first; gives the place behind them.
+// The digits of a number from the place `at` on; gives the place behind them. The first group is as long as it is, so that no
+// digit has to be counted, and each further group has eight digits.
 pub fn put_digits(n: u64, out: &mut [u8], at: usize) -> usize
     requires { ⌜ at + length (decimal n) ≤ length (now out) ⌝ }
     ensures place { λ r. ⌜ r ≡ at + length (decimal n) ⌝ }
     ensures output { λ r. ⌜ now (out .exit) ≡ written (now (out .entry)) at (decimal n) ⌝ }
 {
-    let end = at + places(n);
-    let mut i = end;
-    let mut rest = n;
-    while rest >= 10 {
-        i -= 1;
-        out[i] = last_digit(rest);
-        rest /= 10;
+    if n < 100_000_000 {
+        return put_short(n, out, at);
     }
-    out[at] = last_digit(rest);
-    end
+    let high = n / 100_000_000;
+    let low = n % 100_000_000;
+    if high < 100_000_000 {
+        let i = put_short(high, out, at);
+        put_eight(low, out, i);
+        return i + 8;
+    }
+    let i = put_few(high / 100_000_000, out, at);
+    put_eight(high % 100_000_000, out, i);
+    put_eight(low, out, i + 8);
+    i + 16
 }
 
 // A number from the place `at` on; gives the place behind it. The longest is the least i64, a minus and 19 digits.

@@ -1,94 +1,110 @@
--- `printing::put_digits` meets its contract. The loop's invariant: with the digits of the rest stored, the output is what the whole number leaves.
--- Assumes nothing.
-use mathlib.Core.Path.{_≡_, refl, sym, ap, ap₂, _∙_}
-use Prim.Native.Nat.{_+_, _-_, _/_, _%_, _≤_}
+-- `printing::put_digits` meets its contract: the last eight digits stand behind the others, and the eight before them as well where there are more
+-- than sixteen. Assumes nothing.
+use mathlib.Core.Path.{_≡_, sym, ap, _∙_}
+use Prim.Native.Nat.{_+_, _/_, _%_, _≤_}
 use native.Mathlib.Omega.{arith}
-use borrow.Author.Needs.{needs}
-use lib.ListN.{length, set, length-set}
+use lib.ListN.{length}
 use lib.Seq.{sets}
+use Rattle.printing.specs.Groups.{eight}
 use Rattle.printing.specs.Spell.{decimal}
-use Rattle.printing.proofs.Digits.{decimal-one, decimal-more, length-one, length-more}
-use Rattle.printing.proofs.Writing.{written-sets, sets-last}
+use Rattle.printing.proofs.Digits.{eight-behind, length-behind}
+use Rattle.printing.proofs.Writing.{written-sets, stored-behind}
+use borrow.Author.Needs.{needs}
 use Rattle.printing.proofs.put_digits.Statement.{statement}
 use Rattle.printing.proofs.put_digits.Tie as tie
 
-abbrev Inv-loop : tie.InvT-loop
-Inv-loop n out₀ at end i₀ rest₀ out i rest = (i ≡ at + length (decimal rest)) × (i ≤ length out₀) × (length out ≡ length out₀) × (sets out at (decimal rest) ≡ sets out₀ at (decimal n))
+put-short-requires : tie.Need-put-short-requires
+put-short-requires c κs = search needs
 
-abbrev μ-loop : tie.MeasureT-loop
-μ-loop n out₀ at end i₀ rest₀ out i rest = rest
+same-length : tie.Need-same-length
+same-length c = search needs
 
-places-requires : tie.Need-places-requires Inv-loop μ-loop
-places-requires c κs = search needs
+returns : tie.Need-returns
+returns c =
+    let a = c .before .before .before .before .before .before .args in
+    (c .before .before .put-short .ensures .0, c .before .before .put-short .ensures .1 ∙ written-sets (a .out .now) (a .at) (decimal (a .n)) (c .before .before .before .before .before .before .pre))
 
-add-end : tie.Need-add-end Inv-loop μ-loop
-add-end c = omega (arith, c .places .ensures, c .before .before .pre)
+put-short-requires-2 : tie.Need-put-short-requires-2
+put-short-requires-2 c κs = omega (arith, c .before .before .before .before .pre, length-behind 8 (c .before .before .before .before .args .n) (omega arith))
 
-loop-holds : tie.Need-loop-holds Inv-loop μ-loop
-loop-holds c = (ap (λ k. c .before .before .args .at + k) (c .places .ensures), omega (arith, c .places .ensures, c .before .before .pre), refl, refl)
+put-eight-requires : tie.Need-put-eight-requires
+put-eight-requires c κs = omega (arith, c .before .before .before .before .before .before .before .before .pre, c .before .before .before .put-short2 .kept .1 .0, c .before .before .before .put-short2 .ensures .0, length-behind 8 (c .before .before .before .before .before .before .before .before .args .n) (omega arith))
 
-sub-i : tie.Need-sub-i Inv-loop μ-loop
-sub-i c = omega (arith, c .before .loop .inv .0, length-more (c .before .loop .rest) (c .loop-test .taken))
+add-result : tie.Need-add-result
+add-result c = omega (arith, c .before .before .before .before .before .before .before .before .before .before .before .pre, c .before .before .before .before .before .before .put-short2 .ensures .0, length-behind 8 (c .before .before .before .before .before .before .before .before .before .before .before .args .n) (omega arith))
 
-last-digit-requires : tie.Need-last-digit-requires Inv-loop μ-loop
-last-digit-requires c κs = search needs
+same-length-2 : tie.Need-same-length-2
+same-length-2 c = search needs
 
-slice-write-out : tie.Need-slice-write-out Inv-loop μ-loop
-slice-write-out c = omega (arith, c .before .before .loop .inv .0, c .before .before .loop .inv .1, c .before .before .loop .inv .2, length-more (c .before .before .loop .rest) (c .before .loop-test .taken))
-
-loop-less : tie.Need-loop-less Inv-loop μ-loop
-loop-less c = search needs
-
-loop-again : tie.Need-loop-again Inv-loop μ-loop
-loop-again c =
-    let l = c .before .before .loop in
-    let a = c .before .before .before .before .before .args in
-    let h = c .before .loop-test .taken in
-    let e : l .i - 1 ≡ a .at + length (decimal (l .rest / 10)) = omega (arith, l .inv .0, length-more (l .rest) h) in (
-      e,
-      omega (arith, l .inv .1),
-      length-set (l .out) (l .i - 1) (c .last-digit .result) ∙ l .inv .2,
-      ap₂ (λ j b. sets (set (l .out) j b) (a .at) (decimal (l .rest / 10))) e (c .last-digit .ensures)
-          ∙ sets-last (l .out) (a .at) (decimal (l .rest / 10)) (48 + l .rest % 10)
-          ∙ ap (sets (l .out) (a .at)) (sym (decimal-more (l .rest) h))
-          ∙ l .inv .3,
+returns-2 : tie.Need-returns-2
+returns-2 c =
+    let a = c .before .before .before .before .before .before .before .before .before .before .before .args in
+    let first = c .before .before .before .before .before .before .put-short2 in
+    let h : 100000000 ≤ a .n = omega arith in (
+      omega (arith, first .ensures .0, length-behind 8 (a .n) h),
+      stored-behind (a .out .now) (a .at) (decimal (a .n / 100000000)) (eight (a .n % 100000000)) (first .ensures .0) (first .ensures .1) (c .before .before .put-eight .ensures)
+          ∙ ap (sets (a .out .now) (a .at)) (sym (eight-behind (a .n) h))
+          ∙ written-sets (a .out .now) (a .at) (decimal (a .n)) (c .before .before .before .before .before .before .before .before .before .before .before .pre),
     )
 
-last-digit-requires-2 : tie.Need-last-digit-requires-2 Inv-loop μ-loop
-last-digit-requires-2 c κs = search needs
+put-few-requires : tie.Need-put-few-requires
+put-few-requires c κs = omega (arith, c .before .before .before .before .pre, c .before .before .before .before .fits .n .fits, length-behind 8 (c .before .before .before .before .args .n) (omega arith), length-behind 8 (c .before .before .before .before .args .n / 100000000) (omega arith))
 
-slice-write-out-2 : tie.Need-slice-write-out-2 Inv-loop μ-loop
-slice-write-out-2 c = omega (arith, c .before .before .loop .inv .0, c .before .before .loop .inv .1, c .before .before .loop .inv .2, length-one (c .before .before .loop .rest) (c .before .loop-test .left))
+put-eight-requires-2 : tie.Need-put-eight-requires-2
+put-eight-requires-2 c κs = omega (arith, c .before .before .before .before .before .before .before .before .pre, c .before .before .before .put-few .kept .1 .0, c .before .before .before .put-few .ensures .0, length-behind 8 (c .before .before .before .before .before .before .before .before .args .n) (omega arith), length-behind 8 (c .before .before .before .before .before .before .before .before .args .n / 100000000) (omega arith))
 
-same-length : tie.Need-same-length Inv-loop μ-loop
-same-length c = length-set (c .before .before .loop .out) (c .before .before .before .before .before .args .at) (c .last-digit2 .result) ∙ c .before .before .loop .inv .2
+add-put-eight : tie.Need-add-put-eight
+add-put-eight c = omega (arith, c .before .before .before .before .before .before .before .before .before .before .before .before .pre, c .before .before .before .before .before .before .before .put-few .ensures .0, length-behind 8 (c .before .before .before .before .before .before .before .before .before .before .before .before .args .n) (omega arith), length-behind 8 (c .before .before .before .before .before .before .before .before .before .before .before .before .args .n / 100000000) (omega arith))
 
-returns : tie.Need-returns Inv-loop μ-loop
-returns c =
-    let l = c .before .before .loop in
-    let a = c .before .before .before .before .before .args in (
-      ap (λ k. a .at + k) (c .before .before .before .places .ensures),
-      ap (set (l .out) (a .at)) (c .last-digit2 .ensures)
-          ∙ ap (sets (l .out) (a .at)) (sym (decimal-one (l .rest) (c .before .loop-test .left)))
-          ∙ l .inv .3
-          ∙ written-sets (a .out .now) (a .at) (decimal (a .n)) (c .before .before .before .before .before .pre),
+put-eight-requires-3 : tie.Need-put-eight-requires-3
+put-eight-requires-3 c κs = omega (arith, c .before .before .before .before .before .before .before .before .before .before .before .before .pre, c .before .before .before .put-eight2 .kept .1 .0, c .before .before .before .before .before .before .before .put-few .kept .1 .0, c .before .before .before .before .before .before .before .put-few .ensures .0, length-behind 8 (c .before .before .before .before .before .before .before .before .before .before .before .before .args .n) (omega arith), length-behind 8 (c .before .before .before .before .before .before .before .before .before .before .before .before .args .n / 100000000) (omega arith))
+
+add-result-2 : tie.Need-add-result-2
+add-result-2 c = omega (arith, c .before .before .before .before .before .before .before .before .before .before .before .before .before .before .before .pre, c .before .before .before .before .before .before .before .before .before .before .put-few .ensures .0, length-behind 8 (c .before .before .before .before .before .before .before .before .before .before .before .before .before .before .before .args .n) (omega arith), length-behind 8 (c .before .before .before .before .before .before .before .before .before .before .before .before .before .before .before .args .n / 100000000) (omega arith))
+
+same-length-3 : tie.Need-same-length-3
+same-length-3 c = search needs
+
+returns-3 : tie.Need-returns-3
+returns-3 c =
+    let a = c .before .before .before .before .before .before .before .before .before .before .before .before .before .before .before .args in
+    let first = c .before .before .before .before .before .before .before .before .before .before .put-few in
+    let h : 100000000 ≤ a .n = omega arith in
+    let g : 100000000 ≤ a .n / 100000000 = omega arith in
+    let middle =
+    stored-behind
+    (a .out .now)
+    (a .at)
+    (decimal (a .n / 100000000 / 100000000))
+    (eight (a .n / 100000000 % 100000000))
+    (first .ensures .0)
+    (first .ensures .1)
+    (c .before .before .before .before .before .before .put-eight2 .ensures)
+    ∙ ap (sets (a .out .now) (a .at)) (sym (eight-behind (a .n / 100000000) g))
+    in
+    let i : first .result + 8 ≡ a .at + length (decimal (a .n / 100000000)) = omega (arith, first .ensures .0, length-behind 8 (a .n / 100000000) g) in (
+      omega (arith, first .ensures .0, length-behind 8 (a .n) h, length-behind 8 (a .n / 100000000) g),
+      stored-behind (a .out .now) (a .at) (decimal (a .n / 100000000)) (eight (a .n % 100000000)) i middle (c .before .before .put-eight3 .ensures)
+          ∙ ap (sets (a .out .now) (a .at)) (sym (eight-behind (a .n) h))
+          ∙ written-sets (a .out .now) (a .at) (decimal (a .n)) (c .before .before .before .before .before .before .before .before .before .before .before .before .before .before .before .pre),
     )
 
 pub put-digits-spec : {M : Type 1} → statement M
 put-digits-spec =
     tie.close
     (tie.spec
-    Inv-loop
-    μ-loop
-    places-requires
-    add-end
-    loop-holds
-    sub-i
-    last-digit-requires
-    slice-write-out
-    loop-less
-    loop-again
-    last-digit-requires-2
-    slice-write-out-2
+    put-short-requires
     same-length
-    returns)
+    returns
+    put-short-requires-2
+    put-eight-requires
+    add-result
+    same-length-2
+    returns-2
+    put-few-requires
+    put-eight-requires-2
+    add-put-eight
+    put-eight-requires-3
+    add-result-2
+    same-length-3
+    returns-3)

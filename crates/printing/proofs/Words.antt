@@ -1,0 +1,253 @@
+-- Words that hold several numbers side by side, and their digits as bytes. A mask takes the quotients of all of them out of one product.
+--   hundreds-of-two                            two numbers of four digits divided by a hundred at once
+--   bytes-of-four, bytes-of-eight, digit       the bytes of a word
+--   four-covered, four-wide, four-word         the word of four digits: what is taken away is there, fits, and leaves the digits
+--   split-pairs, split-fits                    the pairs of eight digits from their hundreds
+--   pairs-wide, tens-covered, tens-wide, room, eight-word   the word of eight digits, as that of four
+use mathlib.Core.Path.{_≡_, sym, ap, ap₂, subst, _∙_}
+use mathlib.Core.List.{List, [], _∷_, _++_}
+use Prim.Native.Nat.{ℕ, _+_, _*_, _-_, _/_, _%_, _^_, _<_, _≤_}
+use native.Mathlib.Nat.{mod-lt, one-le-pow, div-one, div-add-mod', div-div-eq-div-mul}
+use native.Mathlib.Omega.{arith}
+use lib.Bits.{bitAnd, and-block, and-mask}
+use Rattle.printing.specs.Groups.{four, pairs, packed}
+
+-- ════ quotients of numbers side by side
+-- a mask whose lowest part has k bits, of which j are set
+part : (j k m above : ℕ) → 2 ^ j ≤ 2 ^ k → bitAnd m (above * 2 ^ k + (2 ^ j - 1)) ≡ bitAnd (m / 2 ^ k) above * 2 ^ k + m % 2 ^ k % 2 ^ j
+part j k m above h =
+    let some = one-le-pow k 2 (omega arith) in
+    let least = one-le-pow j 2 (omega arith) in
+    ap (λ x. bitAnd x (above * 2 ^ k + (2 ^ j - 1))) (sym (div-add-mod' m (2 ^ k)))
+    ∙ and-block k (m / 2 ^ k) above (m % 2 ^ k) (2 ^ j - 1) (mod-lt m some) (omega arith)
+    ∙ ap (λ x. bitAnd (m / 2 ^ k) above * 2 ^ k + x) (and-mask (m % 2 ^ k) j)
+
+-- the hundredth of a number that stands 32 bits below others
+hundredth : (x others above : ℕ) → x < 10000 → bitAnd ((x + 4294967296 * others) * 5243 / 524288) (above * 4294967296 + 127) ≡ bitAnd (others * 5243 / 524288) above * 4294967296 + x / 100
+hundredth x others above h =
+    let m : (x + 4294967296 * others) * 5243 / 524288 ≡ x / 100 + 8192 * (others * 5243) = omega arith in
+    let upper : (x / 100 + 8192 * (others * 5243)) / 4294967296 ≡ others * 5243 / 524288 = omega arith in
+    let lower : (x / 100 + 8192 * (others * 5243)) % 4294967296 % 128 ≡ x / 100 = omega arith in
+    ap (λ n. bitAnd n (above * 4294967296 + 127)) m
+    ∙ part 7 32 (x / 100 + 8192 * (others * 5243)) above (omega arith)
+    ∙ ap₂ (λ a b. bitAnd a above * 4294967296 + b) upper lower
+
+pub hundreds-of-two : (x y : ℕ) → x < 10000 → y < 10000 → bitAnd ((x + 4294967296 * y) * 5243 / 524288) 545460846719 ≡ x / 100 + 4294967296 * (y / 100)
+hundreds-of-two x y h l =
+    let q : y * 5243 / 524288 ≡ y / 100 = omega arith in
+    let small : y / 100 % 128 ≡ y / 100 = omega arith in
+    hundredth x y 127 h
+    ∙ ap (λ a. a * 4294967296 + x / 100) (and-mask (y * 5243 / 524288) 7 ∙ ap (λ a. a % 128) q ∙ small)
+    ∙ omega arith
+
+-- the tenth of a number that stands 16 bits below others
+tenth : (x others above : ℕ) → x < 100 → bitAnd ((x + 65536 * others) * 103 / 1024) (above * 65536 + 15) ≡ bitAnd (others * 103 / 1024) above * 65536 + x / 10
+tenth x others above h =
+    let m : (x + 65536 * others) * 103 / 1024 ≡ x / 10 + 64 * (others * 103) = omega arith in
+    let upper : (x / 10 + 64 * (others * 103)) / 65536 ≡ others * 103 / 1024 = omega arith in
+    let lower : (x / 10 + 64 * (others * 103)) % 65536 % 16 ≡ x / 10 = omega arith in
+    ap (λ n. bitAnd n (above * 65536 + 15)) m
+    ∙ part 4 16 (x / 10 + 64 * (others * 103)) above (omega arith)
+    ∙ ap₂ (λ a b. bitAnd a above * 65536 + b) upper lower
+
+tens-of-two : (p q : ℕ) → p < 100 → q < 100 → bitAnd ((p + 65536 * q) * 103 / 1024) 983055 ≡ p / 10 + 65536 * (q / 10)
+tens-of-two p q hp hq =
+    let last : q * 103 / 1024 ≡ q / 10 = omega arith in
+    let small : q / 10 % 16 ≡ q / 10 = omega arith in
+    tenth p q 15 hp
+    ∙ ap (λ a. a * 65536 + p / 10) (and-mask (q * 103 / 1024) 4 ∙ ap (λ a. a % 16) last ∙ small)
+    ∙ omega arith
+
+tens-of-four : (p q r s : ℕ) → p < 100 → q < 100 → r < 100 → s < 100 → bitAnd ((p + 65536 * (q + 65536 * (r + 65536 * s))) * 103 / 1024) 4222189076152335 ≡ p / 10 + 65536 * (q / 10 + 65536 * (r / 10 + 65536 * (s / 10)))
+tens-of-four p q r s hp hq hr hs =
+    let last : s * 103 / 1024 ≡ s / 10 = omega arith in
+    let small : s / 10 % 16 ≡ s / 10 = omega arith in
+    tenth p (q + 65536 * (r + 65536 * s)) 64425492495 hp
+    ∙ ap (λ a. a * 65536 + p / 10) (tenth q (r + 65536 * s) 983055 hq)
+    ∙ ap (λ a. (a * 65536 + q / 10) * 65536 + p / 10) (tenth r s 15 hr)
+    ∙ ap (λ a. ((a * 65536 + r / 10) * 65536 + q / 10) * 65536 + p / 10) (and-mask (s * 103 / 1024) 4 ∙ ap (λ a. a % 16) last ∙ small)
+    ∙ omega arith
+
+-- ════ the bytes of a word
+-- a byte, and what stands above it
+byte : (w b above : ℕ) → b < 256 → w ≡ b + 256 * above → w % 256 ≡ b
+byte w b above h e = omega arith
+
+next : (w k b above : ℕ) → b < 256 → w / k ≡ b + 256 * above → w / (k * 256) ≡ above
+next w k b above h e =
+    let q : (b + 256 * above) / 256 ≡ above = omega arith in
+    sym (div-div-eq-div-mul w k 256) ∙ ap (λ x. x / 256) e ∙ q
+
+module _ (w a b c d : ℕ) (ha : a < 256) (hb : b < 256) (hc : c < 256) (hd : d < 256) where
+  pub bytes-of-four : w ≡ packed (a ∷ b ∷ c ∷ d ∷ []) → _≡_ {A = List ℕ} (w % 256 ∷ w / 256 % 256 ∷ w / 65536 % 256 ∷ w / 16777216 % 256 ∷ []) (a ∷ b ∷ c ∷ d ∷ [])
+  bytes-of-four e₀ =
+      let e₁ = next w 1 a (packed (b ∷ c ∷ d ∷ [])) ha (div-one w ∙ e₀) in
+      let e₂ = next w 256 b (packed (c ∷ d ∷ [])) hb e₁ in
+      let e₃ = next w 65536 c (packed (d ∷ [])) hc e₂ in
+      cc (
+        byte w a (packed (b ∷ c ∷ d ∷ [])) ha e₀,
+        byte (w / 256) b (packed (c ∷ d ∷ [])) hb e₁,
+        byte (w / 65536) c (packed (d ∷ [])) hc e₂,
+        byte (w / 16777216) d 0 hd e₃,
+      )
+
+  module _ (e f g h : ℕ) (he : e < 256) (hf : f < 256) (hg : g < 256) (hh : h < 256) where
+    pub bytes-of-eight :
+        w ≡ packed (a ∷ b ∷ c ∷ d ∷ e ∷ f ∷ g ∷ h ∷ [])
+        → _≡_
+        {A = List ℕ}
+        (w % 256 ∷ w / 256 % 256 ∷ w / 65536 % 256 ∷ w / 16777216 % 256 ∷ w / 4294967296 % 256 ∷ w / 1099511627776 % 256 ∷ w / 281474976710656 % 256 ∷ w / 72057594037927936 % 256 ∷ [])
+        (a ∷ b ∷ c ∷ d ∷ e ∷ f ∷ g ∷ h ∷ [])
+    bytes-of-eight e₀ =
+        let e₁ = next w 1 a (packed (b ∷ c ∷ d ∷ e ∷ f ∷ g ∷ h ∷ [])) ha (div-one w ∙ e₀) in
+        let e₂ = next w 256 b (packed (c ∷ d ∷ e ∷ f ∷ g ∷ h ∷ [])) hb e₁ in
+        let e₃ = next w 65536 c (packed (d ∷ e ∷ f ∷ g ∷ h ∷ [])) hc e₂ in
+        let e₄ = next w 16777216 d (packed (e ∷ f ∷ g ∷ h ∷ [])) hd e₃ in
+        let e₅ = next w 4294967296 e (packed (f ∷ g ∷ h ∷ [])) he e₄ in
+        let e₆ = next w 1099511627776 f (packed (g ∷ h ∷ [])) hf e₅ in
+        let e₇ = next w 281474976710656 g (packed (h ∷ [])) hg e₆ in
+        cc (
+          byte w a (packed (b ∷ c ∷ d ∷ e ∷ f ∷ g ∷ h ∷ [])) ha e₀,
+          byte (w / 256) b (packed (c ∷ d ∷ e ∷ f ∷ g ∷ h ∷ [])) hb e₁,
+          byte (w / 65536) c (packed (d ∷ e ∷ f ∷ g ∷ h ∷ [])) hc e₂,
+          byte (w / 16777216) d (packed (e ∷ f ∷ g ∷ h ∷ [])) hd e₃,
+          byte (w / 4294967296) e (packed (f ∷ g ∷ h ∷ [])) he e₄,
+          byte (w / 1099511627776) f (packed (g ∷ h ∷ [])) hf e₅,
+          byte (w / 281474976710656) g (packed (h ∷ [])) hg e₆,
+          byte (w / 72057594037927936) h 0 hh e₇,
+        )
+
+pub digit : (n : ℕ) → 48 + n % 10 < 256
+digit n = omega arith
+
+-- ════ the digits of pairs as bytes
+abbrev tens : ℕ → ℕ
+tens n = n / 100 / 10 + 65536 * (n % 100 / 10)
+
+pair : (x : ℕ) → x < 100 → 256 * x ≡ 2559 * (x / 10) + (x / 10 + 256 * (x % 10))
+pair x h = omega arith
+
+digits-word : (n : ℕ) → n < 10000 → 256 * pairs n + 808464432 ≡ 2559 * tens n + packed (four n)
+digits-word n h =
+    let a : n / 1000 % 10 ≡ n / 100 / 10 = omega arith in
+    let c : n / 10 % 10 ≡ n % 100 / 10 = omega arith in
+    let d : n % 10 ≡ n % 100 % 10 = omega arith in
+    omega (arith, pair (n / 100) (omega arith), pair (n % 100) (omega arith))
+
+four-covers : (n : ℕ) → 2559 * tens n ≤ 256 * pairs n
+four-covers n = omega arith
+
+four-below : (n : ℕ) → n < 10000 → pairs n < 6553600
+four-below n h = omega arith
+
+-- a difference and what is added to it fit 64 bits where they would without what is taken away
+pub room : (a t k : ℕ) → a + k < 18446744073709551616 → a - t + k < 18446744073709551616
+room a t k h = omega arith
+
+tens-fit : (t m : ℕ) → t ≤ m → m < 18446744073709551616 → t < 18446744073709551616
+tens-fit t m h l = omega arith
+
+small-fits : (p : ℕ) → p < 6553600 → 256 * p < 18446744073709551616
+small-fits p h = omega arith
+
+rest : (a t k w : ℕ) → t ≤ a → a + k ≡ t + w → a - t + k ≡ w
+rest a t k w h e = omega arith
+
+module _ (n : ℕ) (h : n < 10000) where
+  tens-of-pairs : bitAnd (pairs n * 103 / 1024) 983055 ≡ tens n
+  tens-of-pairs = tens-of-two (n / 100) (n % 100) (omega arith) (omega arith)
+
+  pub four-covered : 2559 * bitAnd (pairs n * 103 / 1024) 983055 ≤ 256 * pairs n
+  four-covered = subst (λ t. 2559 * t ≤ 256 * pairs n) (sym tens-of-pairs) (four-covers n)
+
+  pub four-wide : 2559 * bitAnd (pairs n * 103 / 1024) 983055 < 18446744073709551616
+  four-wide = tens-fit (2559 * bitAnd (pairs n * 103 / 1024) 983055) (256 * pairs n) four-covered (small-fits (pairs n) (four-below n h))
+
+  pub four-word : 256 * pairs n - 2559 * bitAnd (pairs n * 103 / 1024) 983055 + 808464432 ≡ packed (four n)
+  four-word =
+      ap (λ t. 256 * pairs n - 2559 * t + 808464432) tens-of-pairs
+      ∙ rest (256 * pairs n) (2559 * tens n) 808464432 (packed (four n)) (four-covers n) (digits-word n h)
+
+-- ════ eight digits at once: x and y are the numbers of the first four and of the last
+unmix : (x y h : ℕ) → h ≡ x / 100 + 4294967296 * (y / 100) → x + 4294967296 * y - 100 * h ≡ x % 100 + 4294967296 * (y % 100)
+unmix x y h e = omega arith
+
+regroup : (p q r s : ℕ) → p + 4294967296 * r + 65536 * (q + 4294967296 * s) ≡ p + 65536 * q + 4294967296 * (r + 65536 * s)
+regroup p q r s = omega arith
+
+nest : (p q r s : ℕ) → p + 65536 * q + 4294967296 * (r + 65536 * s) ≡ p + 65536 * (q + 65536 * (r + 65536 * s))
+nest p q r s = omega arith
+
+two-below : (a b : ℕ) → a < 6553600 → b < 6553600 → a + 4294967296 * b < 30000000000000000
+two-below a b h l = omega arith
+
+wide : (p : ℕ) → p < 30000000000000000 → (p * 103 < 18446744073709551616) × (256 * p < 18446744073709551616) × (256 * p + 3472328296227680304 < 18446744073709551616)
+wide p h = (omega arith, omega arith, omega arith)
+
+covers : (a b s t : ℕ) → 2559 * s ≤ 256 * a → 2559 * t ≤ 256 * b → 2559 * (s + 4294967296 * t) ≤ 256 * (a + 4294967296 * b)
+covers a b s t h l = omega arith
+
+word : (a b s t u v : ℕ) → 2559 * s ≤ 256 * a → 2559 * t ≤ 256 * b → 256 * a + 808464432 ≡ 2559 * s + u → 256 * b + 808464432 ≡ 2559 * t + v
+    → 256 * (a + 4294967296 * b) - 2559 * (s + 4294967296 * t) + 3472328296227680304 ≡ u + 4294967296 * v
+word a b s t u v h l e f = omega arith
+
+packed-eight : (a b c d e f g h : ℕ) → packed (a ∷ b ∷ c ∷ d ∷ []) + 4294967296 * packed (e ∷ f ∷ g ∷ h ∷ []) ≡ packed (a ∷ b ∷ c ∷ d ∷ e ∷ f ∷ g ∷ h ∷ [])
+packed-eight a b c d e f g h = omega arith
+
+fits : (p : ℕ) → p < 30000000000000000 → p < 18446744073709551616
+fits p h = omega arith
+
+module _ (x y : ℕ) (hx : x < 10000) (hy : y < 10000) where
+  both-below : pairs x + 4294967296 * pairs y < 30000000000000000
+  both-below = two-below (pairs x) (pairs y) (four-below x hx) (four-below y hy)
+
+  module _ (h : ℕ) (e : h ≡ x / 100 + 4294967296 * (y / 100)) where
+    pub split-pairs : h + 65536 * (x + 4294967296 * y - 100 * h) ≡ pairs x + 4294967296 * pairs y
+    split-pairs = ap₂ (λ a b. a + 65536 * b) e (unmix x y h e) ∙ regroup (x / 100) (x % 100) (y / 100) (y % 100)
+
+    pub split-fits : h + 65536 * (x + 4294967296 * y - 100 * h) < 18446744073709551616
+    split-fits = fits (h + 65536 * (x + 4294967296 * y - 100 * h)) (subst (λ m. m < 30000000000000000) (sym split-pairs) both-below)
+
+  module _ (p : ℕ) (e : p ≡ pairs x + 4294967296 * pairs y) where
+    pub pairs-wide : (p * 103 < 18446744073709551616) × (256 * p < 18446744073709551616) × (256 * p + 3472328296227680304 < 18446744073709551616)
+    pairs-wide = wide p (subst (λ m. m < 30000000000000000) (sym e) both-below)
+
+    tens-of-word : bitAnd (p * 103 / 1024) 4222189076152335 ≡ tens x + 4294967296 * tens y
+    tens-of-word =
+        ap (λ m. bitAnd (m * 103 / 1024) 4222189076152335) (e ∙ nest (x / 100) (x % 100) (y / 100) (y % 100))
+        ∙ tens-of-four (x / 100) (x % 100) (y / 100) (y % 100) (omega arith) (omega arith) (omega arith) (omega arith)
+        ∙ sym (nest (x / 100 / 10) (x % 100 / 10) (y / 100 / 10) (y % 100 / 10))
+
+    pub tens-covered : 2559 * bitAnd (p * 103 / 1024) 4222189076152335 ≤ 256 * p
+    tens-covered =
+        subst
+        (λ m. m)
+        (sym (ap₂ (λ t m. 2559 * t ≤ 256 * m) tens-of-word e))
+        (covers (pairs x) (pairs y) (tens x) (tens y) (four-covers x) (four-covers y))
+
+    pub tens-wide : 2559 * bitAnd (p * 103 / 1024) 4222189076152335 < 18446744073709551616
+    tens-wide = tens-fit (2559 * bitAnd (p * 103 / 1024) 4222189076152335) (256 * p) tens-covered (pairs-wide .1)
+
+    pub eight-word : 256 * p - 2559 * bitAnd (p * 103 / 1024) 4222189076152335 + 3472328296227680304 ≡ packed (four x ++ four y)
+    eight-word =
+        ap₂ (λ m t. 256 * m - 2559 * t + 3472328296227680304) e tens-of-word
+        ∙ word
+        (pairs x)
+        (pairs y)
+        (tens x)
+        (tens y)
+        (packed (four x))
+        (packed (four y))
+        (four-covers x)
+        (four-covers y)
+        (digits-word x hx)
+        (digits-word y hy)
+        ∙ packed-eight
+        (48 + x / 1000 % 10)
+        (48 + x / 100 % 10)
+        (48 + x / 10 % 10)
+        (48 + x % 10)
+        (48 + y / 1000 % 10)
+        (48 + y / 100 % 10)
+        (48 + y / 10 % 10)
+        (48 + y % 10)
