@@ -1,16 +1,17 @@
 -- Words that hold several numbers side by side, and their digits as bytes. A mask takes the quotients of all of them out of one product.
 --   hundreds-of-two                            two numbers of four digits divided by a hundred at once
---   bytes-of-four, bytes-of-eight, digit       the bytes of a word
+--   unpacked-packed, four-bytes, eight-bytes   the bytes of a word are those that it was made of
 --   four-covered, four-wide, four-word         the word of four digits: what is taken away is there, fits, and leaves the digits
 --   split-pairs, split-fits                    the pairs of eight digits from their hundreds
 --   pairs-wide, tens-covered, tens-wide, room, eight-word   the word of eight digits, as that of four
-use mathlib.Core.Path.{_≡_, sym, ap, ap₂, subst, _∙_}
+use mathlib.Core.Path.{_≡_, refl, sym, ap, ap₂, subst, _∙_}
 use mathlib.Core.List.{List, [], _∷_, _++_}
 use Prim.Native.Nat.{ℕ, _+_, _*_, _-_, _/_, _%_, _^_, _<_, _≤_}
-use native.Mathlib.Nat.{mod-lt, one-le-pow, div-one, div-add-mod', div-div-eq-div-mul}
+use native.Mathlib.Nat.{mod-lt, one-le-pow, div-add-mod'}
 use native.Mathlib.Omega.{arith}
+use lib.ListN.{length}
 use lib.Bits.{bitAnd, and-block, and-mask}
-use Rattle.printing.specs.Groups.{four, pairs, packed}
+use Rattle.printing.specs.Groups.{four, eight, pairs, packed, unpacked}
 
 -- ════ quotients of numbers side by side
 -- a mask whose lowest part has k bits, of which j are set
@@ -69,56 +70,31 @@ tens-of-four p q r s hp hq hr hs =
     ∙ omega arith
 
 -- ════ the bytes of a word
--- a byte, and what stands above it
-byte : (w b above : ℕ) → b < 256 → w ≡ b + 256 * above → w % 256 ≡ b
-byte w b above h e = omega arith
+abbrev pub Bytes : List ℕ → Type 0
+Bytes [] = Unit {0}
+Bytes (b ∷ bytes) = (b < 256) × Bytes bytes
 
-next : (w k b above : ℕ) → b < 256 → w / k ≡ b + 256 * above → w / (k * 256) ≡ above
-next w k b above h e =
-    let q : (b + 256 * above) / 256 ≡ above = omega arith in
-    sym (div-div-eq-div-mul w k 256) ∙ ap (λ x. x / 256) e ∙ q
+bytes-append : (xs ys : List ℕ) → Bytes xs → Bytes ys → Bytes (xs ++ ys)
+bytes-append [] ys h k = k
+bytes-append (x ∷ xs) ys h k = (h .0, bytes-append xs ys (h .1) k)
 
-module _ (w a b c d : ℕ) (ha : a < 256) (hb : b < 256) (hc : c < 256) (hd : d < 256) where
-  pub bytes-of-four : w ≡ packed (a ∷ b ∷ c ∷ d ∷ []) → _≡_ {A = List ℕ} (w % 256 ∷ w / 256 % 256 ∷ w / 65536 % 256 ∷ w / 16777216 % 256 ∷ []) (a ∷ b ∷ c ∷ d ∷ [])
-  bytes-of-four e₀ =
-      let e₁ = next w 1 a (packed (b ∷ c ∷ d ∷ [])) ha (div-one w ∙ e₀) in
-      let e₂ = next w 256 b (packed (c ∷ d ∷ [])) hb e₁ in
-      let e₃ = next w 65536 c (packed (d ∷ [])) hc e₂ in
-      cc (
-        byte w a (packed (b ∷ c ∷ d ∷ [])) ha e₀,
-        byte (w / 256) b (packed (c ∷ d ∷ [])) hb e₁,
-        byte (w / 65536) c (packed (d ∷ [])) hc e₂,
-        byte (w / 16777216) d 0 hd e₃,
-      )
+lowest : (b above : ℕ) → b < 256 → ((b + 256 * above) % 256 ≡ b) × ((b + 256 * above) / 256 ≡ above)
+lowest b above h = (omega arith, omega arith)
 
-  module _ (e f g h : ℕ) (he : e < 256) (hf : f < 256) (hg : g < 256) (hh : h < 256) where
-    pub bytes-of-eight :
-        w ≡ packed (a ∷ b ∷ c ∷ d ∷ e ∷ f ∷ g ∷ h ∷ [])
-        → _≡_
-        {A = List ℕ}
-        (w % 256 ∷ w / 256 % 256 ∷ w / 65536 % 256 ∷ w / 16777216 % 256 ∷ w / 4294967296 % 256 ∷ w / 1099511627776 % 256 ∷ w / 281474976710656 % 256 ∷ w / 72057594037927936 % 256 ∷ [])
-        (a ∷ b ∷ c ∷ d ∷ e ∷ f ∷ g ∷ h ∷ [])
-    bytes-of-eight e₀ =
-        let e₁ = next w 1 a (packed (b ∷ c ∷ d ∷ e ∷ f ∷ g ∷ h ∷ [])) ha (div-one w ∙ e₀) in
-        let e₂ = next w 256 b (packed (c ∷ d ∷ e ∷ f ∷ g ∷ h ∷ [])) hb e₁ in
-        let e₃ = next w 65536 c (packed (d ∷ e ∷ f ∷ g ∷ h ∷ [])) hc e₂ in
-        let e₄ = next w 16777216 d (packed (e ∷ f ∷ g ∷ h ∷ [])) hd e₃ in
-        let e₅ = next w 4294967296 e (packed (f ∷ g ∷ h ∷ [])) he e₄ in
-        let e₆ = next w 1099511627776 f (packed (g ∷ h ∷ [])) hf e₅ in
-        let e₇ = next w 281474976710656 g (packed (h ∷ [])) hg e₆ in
-        cc (
-          byte w a (packed (b ∷ c ∷ d ∷ e ∷ f ∷ g ∷ h ∷ [])) ha e₀,
-          byte (w / 256) b (packed (c ∷ d ∷ e ∷ f ∷ g ∷ h ∷ [])) hb e₁,
-          byte (w / 65536) c (packed (d ∷ e ∷ f ∷ g ∷ h ∷ [])) hc e₂,
-          byte (w / 16777216) d (packed (e ∷ f ∷ g ∷ h ∷ [])) hd e₃,
-          byte (w / 4294967296) e (packed (f ∷ g ∷ h ∷ [])) he e₄,
-          byte (w / 1099511627776) f (packed (g ∷ h ∷ [])) hf e₅,
-          byte (w / 281474976710656) g (packed (h ∷ [])) hg e₆,
-          byte (w / 72057594037927936) h 0 hh e₇,
-        )
+pub unpacked-packed : (bytes : List ℕ) → Bytes bytes → unpacked (length bytes) (packed bytes) ≡ bytes
+unpacked-packed [] h = refl
+unpacked-packed (b ∷ bytes) h =
+    let l = lowest b (packed bytes) (h .0) in
+    ap₂ _∷_ (l .0) (ap (unpacked (length bytes)) (l .1) ∙ unpacked-packed bytes (h .1))
 
-pub digit : (n : ℕ) → 48 + n % 10 < 256
+digit : (n : ℕ) → 48 + n % 10 < 256
 digit n = omega arith
+
+pub four-bytes : (n : ℕ) → Bytes (four n)
+four-bytes n = (digit (n / 1000), (digit (n / 100), (digit (n / 10), (digit n, tt))))
+
+pub eight-bytes : (n : ℕ) → Bytes (eight n)
+eight-bytes n = bytes-append (four (n / 10000)) (four (n % 10000)) (four-bytes (n / 10000)) (four-bytes (n % 10000))
 
 -- ════ the digits of pairs as bytes
 abbrev tens : ℕ → ℕ

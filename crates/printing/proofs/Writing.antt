@@ -1,6 +1,6 @@
 -- Bytes written from a place on, one after the other.
 --   written-sets    what single stores leave
---   sets-two, sets-four, sets-eight   stores at places that are sums
+--   sets-two        two stores
 --   stored-behind   bytes stored behind bytes
 --   written-cons    bytes written behind a byte that is stored
 --   written-append  bytes written behind bytes
@@ -20,27 +20,6 @@ written-sets out at bytes h = sets-eq bytes out at h
 
 pub sets-two : (out : List ℕ) (at a b : ℕ) → set (set out at a) (at + 1) b ≡ sets out at (a ∷ b ∷ [])
 sets-two out at a b = ap (λ i. set (set out at a) i b) (add-one at)
-
-pub sets-four : (out : List ℕ) (at a b c d : ℕ) → set (set (set (set out at a) (at + 1) b) (at + 2) c) (at + 3) d ≡ sets out at (a ∷ b ∷ c ∷ d ∷ [])
-sets-four out at a b c d =
-    let two : at + 2 ≡ suc (suc at) = omega arith in
-    let three : at + 3 ≡ suc (suc (suc at)) = omega arith in
-    ap₂ (λ i j. set (set (set (set out at a) (at + 1) b) i c) j d) two three
-    ∙ ap (λ l. set (set l (suc (suc at)) c) (suc (suc (suc at))) d) (sets-two out at a b)
-
-pub sets-eight :
-    (out : List ℕ) (at a b c d e f g h : ℕ)
-    → set (set (set (set (set (set (set (set out at a) (at + 1) b) (at + 2) c) (at + 3) d) (at + 4) e) (at + 5) f) (at + 6) g) (at + 7) h
-    ≡ sets out at (a ∷ b ∷ c ∷ d ∷ e ∷ f ∷ g ∷ h ∷ [])
-sets-eight out at a b c d e f g h =
-    let four : at + 4 ≡ suc (suc (suc (suc at))) = omega arith in
-    let five : at + 5 ≡ suc (suc (suc (suc at))) + 1 = omega arith in
-    let six : at + 6 ≡ suc (suc (suc (suc at))) + 2 = omega arith in
-    let seven : at + 7 ≡ suc (suc (suc (suc at))) + 3 = omega arith in
-    ap (λ l. set (set (set (set l (at + 4) e) (at + 5) f) (at + 6) g) (at + 7) h) (sets-four out at a b c d)
-    ∙ ap₂ (λ i j. set (set (set (set (sets out at (a ∷ b ∷ c ∷ d ∷ [])) i e) j f) (at + 6) g) (at + 7) h) four five
-    ∙ ap₂ (λ i j. set (set (set (set (sets out at (a ∷ b ∷ c ∷ d ∷ [])) (suc (suc (suc (suc at)))) e) (suc (suc (suc (suc at))) + 1) f) i g) j h) six seven
-    ∙ sets-four (sets out at (a ∷ b ∷ c ∷ d ∷ [])) (suc (suc (suc (suc at)))) e f g h
 
 pub written-cons : (out : List ℕ) (at b : ℕ) (bytes : List ℕ) → at + length (b ∷ bytes) ≤ length out → written (set out at b) (at + 1) bytes ≡ written out at (b ∷ bytes)
 written-cons out at b bytes h =

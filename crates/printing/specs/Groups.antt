@@ -1,6 +1,6 @@
 -- Digits in groups, with the zeros in front, and bytes as one word.
 use mathlib.Core.List.{List, [], _∷_, _++_}
-use Prim.Native.Nat.{ℕ, _+_, _*_, _/_, _%_}
+use Prim.Native.Nat.{ℕ, zero, suc, _+_, _*_, _/_, _%_}
 
 -- the last four digits of a number
 abbrev pub four : ℕ → List ℕ
@@ -18,3 +18,8 @@ pairs n = n / 100 + 65536 * (n % 100)
 abbrev pub packed : List ℕ → ℕ
 packed [] = 0
 packed (b ∷ bytes) = b + 256 * packed bytes
+
+-- the lowest n bytes of a word, one after the other
+abbrev pub unpacked : ℕ → ℕ → List ℕ
+unpacked zero w = []
+unpacked (suc n) w = w % 256 ∷ unpacked n (w / 256)

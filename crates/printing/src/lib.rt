@@ -4,7 +4,7 @@ ghost use mathlib.Core.List.{[], _∷_};
 ghost use Prim.Native.Nat.{_+_, _*_, _/_, _%_, _<_, _≤_};
 ghost use lib.ListN.{length};
 ghost use lib.Seq.{sets};
-ghost use Rattle.printing.specs.Groups.{four, eight, pairs, packed};
+ghost use Rattle.printing.specs.Groups.{four, eight, pairs, packed, unpacked};
 ghost use Rattle.printing.specs.Spell.{decimal, spell, written};
 
 // The four digits of a number as the bytes of one word, the first lowest. The two bytes of a pair of digits, whose number is
@@ -40,20 +40,27 @@ fn eight_bytes(n: u64) -> u64
     256 * pairs - 2_559 * tens + 0x3030_3030_3030_3030
 }
 
-// Eight digits from the place `at` on, zeros in front too. The eight stores become one of the word.
+// The bytes of a word, the lowest first, from the place `at` on. Where their number is known these become one store.
+fn put_bytes(word: u64, count: usize, out: &mut [u8], at: usize)
+    requires { ⌜ at + count ≤ length (now out) ⌝ }
+    ensures { λ r. ⌜ now (out .exit) ≡ sets (now (out .entry)) at (unpacked count word) ⌝ }
+{
+    let end = at + count;
+    let mut rest = word;
+    let mut i = at;
+    while i < end {
+        out[i] = (rest % 256) as u8;
+        rest /= 256;
+        i += 1;
+    }
+}
+
+// Eight digits from the place `at` on, zeros in front too.
 fn put_eight(n: u64, out: &mut [u8], at: usize)
     requires { ⌜ (n < 100000000) × (at + 8 ≤ length (now out)) ⌝ }
     ensures { λ r. ⌜ now (out .exit) ≡ sets (now (out .entry)) at (eight n) ⌝ }
 {
-    let word = eight_bytes(n);
-    out[at] = (word % 256) as u8;
-    out[at + 1] = (word / 0x100 % 256) as u8;
-    out[at + 2] = (word / 0x1_0000 % 256) as u8;
-    out[at + 3] = (word / 0x100_0000 % 256) as u8;
-    out[at + 4] = (word / 0x1_0000_0000 % 256) as u8;
-    out[at + 5] = (word / 0x100_0000_0000 % 256) as u8;
-    out[at + 6] = (word / 0x1_0000_0000_0000 % 256) as u8;
-    out[at + 7] = (word / 0x100_0000_0000_0000 % 256) as u8;
+    put_bytes(eight_bytes(n), 8, out, at);
 }
 
 // Four digits from the place `at` on, zeros in front too.
@@ -61,11 +68,7 @@ fn put_four(n: u64, out: &mut [u8], at: usize)
     requires { ⌜ (n < 10000) × (at + 4 ≤ length (now out)) ⌝ }
     ensures { λ r. ⌜ now (out .exit) ≡ sets (now (out .entry)) at (four n) ⌝ }
 {
-    let word = four_bytes(n);
-    out[at] = (word % 256) as u8;
-    out[at + 1] = (word / 0x100 % 256) as u8;
-    out[at + 2] = (word / 0x1_0000 % 256) as u8;
-    out[at + 3] = (word / 0x100_0000 % 256) as u8;
+    put_bytes(four_bytes(n), 4, out, at);
 }
 
 // Two digits from the place `at` on, a zero in front too.
