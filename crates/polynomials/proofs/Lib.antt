@@ -22,7 +22,6 @@ pub mod Unique
 pub mod Bounds
 pub mod Together
 pub mod Cap
-pub mod Folds
 pub mod PowerRows
 pub mod Spots
 pub mod controls

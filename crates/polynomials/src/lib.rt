@@ -11,8 +11,6 @@ ghost use Rattle.polynomials.specs.Group.{own, value, weight, movedNumbe
 ghost use Rattle.polynomials.specs.Limits.{cap, farthest, highest, against};
 ghost use Rattle.polynomials.specs.Ready.{Readable, Weighable, Movable};
 
-pub mod gathering;
-
 // No weight may pass it: 9 x 10^18.
 pub const CAP: u64 = 9_000_000_000_000_000_000;
 

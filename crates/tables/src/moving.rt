@@ -24,7 +24,7 @@ use layout::refusals::NO_VARIABLE;
 use layout::refusals::WRONG_OUTPUT;
 use layout::refusals::WRONG_TABLE;
 use limits::Limits;
-use weights::within_cap;
+use quick::within_cap;
 
 // No shift from one limit within -2000..2000 to another is longer.
 const LONGEST: i64 = 4000;

@@ -14,7 +14,7 @@ use layout::refusals::DONE;
 use layout::refusals::TOO_HEAVY;
 use layout::refusals::WRONG_TABLE;
 use limits::Limits;
-use weights::within_cap;
+use quick::within_cap;
 
 // The refusal of a table that is not sound: first its limits, then its weights.
 pub fn soundness(table: &[i64]) -> u64

@@ -1,5 +1,3 @@
 -- The laws behind the weight check.
---   Terms       the terms of a coefficient
---   AllBlocks   all blocks at once
+--   Terms   the terms of a coefficient
 pub mod Terms
-pub mod AllBlocks

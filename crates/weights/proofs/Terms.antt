@@ -30,8 +30,7 @@ use Rattle.polynomials.proofs.PowerRows.{factor-positive}
 use Rattle.layout.specs.Shape.{kindsLength, tableLength, cumulus}
 use Rattle.layout.specs.Blocks.{piece, groups, chosen, coefficient}
 use Rattle.weights.specs.Reaches.{Reaching}
-use Rattle.weights.specs.Terms.{product, factorAt, termPlace}
-use Rattle.weights.specs.Joined.{groupWeight}
+use Rattle.weights.specs.Terms.{product, factorAt, termPlace, groupWeight}
 
 pub place-own : (b n k : ℕ) → k < 10 → termPlace b n k ≡ 11 + 50 * b + (10 * n + k)
 unfolding termPlace

@@ -4,8 +4,10 @@ use mathlib.Core.List.{List}
 use Prim.Native.Nat.{ℕ, _+_, _*_, _^_, _-_, _≤_}
 use lib.Dec.{ltb}
 use lib.IntN.{ℤ, pos, natAbs}
-use lib.ListN.{length}
+use lib.ListN.{length, getD}
 use lib.Signed.{_≤ℤ_}
+use Rattle.polynomials.specs.Numbers.{nats}
+use Rattle.polynomials.specs.Sum.{sum}
 use Rattle.polynomials.specs.Order.{powers, size}
 use Rattle.polynomials.specs.Limits.{farthest, highest}
 use Rattle.layout.specs.Numbers.{limits, block, pitch, side}
@@ -26,6 +28,14 @@ factorAt r k =
 -- where the number of term k stands in a table, for the block b and the piece n: a block has the low group, the high group and the side groups
 unfoldable pub termPlace : ℕ → ℕ → ℕ → ℕ
 termPlace b n k = limits + block * b + cond (ltb k pitch) (pitch * n + k) (pitch + k)
+
+-- the magnitude at a place of block b
+abbrev pub sizeAt : List ℤ → ℕ → ℕ → ℕ
+sizeAt t b k = natAbs (getD t (limits + block * b + k) (pos 0))
+
+-- the weight of n numbers from the place `start` of block b on, as a group
+abbrev pub groupWeight : List ℤ → ℕ → ℕ → ℕ → ℕ → ℕ → ℕ
+groupWeight t b start n x y = sum nats n (λ k. sizeAt t b (start + k) * product x y k)
 
 -- what the factors of a group ask: places for few enough of them, and the two reaches
 pub record Fillable (part : List ℕ) (r s : ℤ) : Type 0 where

@@ -8,9 +8,6 @@ ghost use Rattle.layout.specs.Shape.{cumulus};
 ghost use Rattle.layout.specs.Sound.{withinCap};
 ghost use Rattle.weights.specs.Reaches.{reachesOf, Reaching, Checkable};
 ghost use Rattle.weights.specs.Terms.{product, factorAt, termPlace, terms, Fillable};
-
-pub mod quick;
-
 use layout::BLOCK;
 use layout::BLOCKS;
 use layout::LIMITS;
@@ -78,7 +75,7 @@ fn term_place(block: usize, piece: usize, term: usize) -> usize
 
 // Whether every coefficient's weight in both pieces is within the cap, at the given reaches. It leaves at the first block
 // and piece whose weight passes.
-fn each_within(table: &[i64], low: [i64; VARIABLES], high: [i64; VARIABLES]) -> bool
+pub fn each_within(table: &[i64], low: [i64; VARIABLES], high: [i64; VARIABLES]) -> bool
     requires { ⌜ Checkable (now table) low high ⌝ }
     ensures { λ r. ⌜ r ≡ withinCap cumulus (now (table .entry)) (reachesOf low high) ⌝ }
 {
@@ -99,15 +96,4 @@ fn each_within(table: &[i64], low: [i64; VARIABLES], high: [i64; VARIABLES]) -> 
         }
     }
     ok
-}
-
-// The same, by the quick test where that decides.
-pub fn within_cap(table: &[i64], low: [i64; VARIABLES], high: [i64; VARIABLES]) -> bool
-    requires { ⌜ Checkable (now table) low high ⌝ }
-    ensures { λ r. ⌜ r ≡ withinCap cumulus (now (table .entry)) (reachesOf low high) ⌝ }
-{
-    if quick::surely_within(table, low, high) {
-        return true;
-    }
-    each_within(table, low, high)
 }

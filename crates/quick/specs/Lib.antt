@@ -1,0 +1,2 @@
+-- The quick test of all weights at once.
+pub mod Joined
