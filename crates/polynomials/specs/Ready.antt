@@ -1,9 +1,8 @@
 -- What the code asks of its callers: groups of few enough numbers, and a weight within the cap, which bounds every sum and product on the way.
 use mathlib.Core.List.{List}
-use Prim.Native.Nat.{ℕ, _+_, _≤_, max}
+use Prim.Native.Nat.{_+_, _≤_, max}
 use lib.IntN.{ℤ, pos, natAbs}
 use lib.ListN.{length}
-use lib.Signed.{_≤ℤ_}
 use Rattle.polynomials.specs.Order.{size}
 use Rattle.polynomials.specs.Group.{own, weight}
 use Rattle.polynomials.specs.Limits.{cap, farthest, highest}
@@ -15,15 +14,6 @@ pub record Readable (l : List ℤ) (x y : ℤ) : Type 0 where
   pub near-x : natAbs x ≤ farthest
   pub near-y : natAbs y ≤ farthest
   pub light : weight l (max 1 (natAbs x)) (max 1 (natAbs y)) ≤ cap
-
--- to add its weight at the reaches r and t to a sum
-pub record Weighable (l : List ℤ) (r t : ℤ) (sum : ℕ) : Type 0 where
-  pub few : length l ≤ size highest
-  pub one-r : pos 1 ≤ℤ r
-  pub one-t : pos 1 ≤ℤ t
-  pub near-r : natAbs r ≤ farthest
-  pub near-t : natAbs t ≤ farthest
-  pub low : sum ≤ cap
 
 -- to move it by s: its weight at reaches of 1, the moved variable's longer by |s|
 pub record Movable (w : Variable) (s : ℤ) (l : List ℤ) : Type 0 where

@@ -7,9 +7,9 @@ ghost use Rattle.polynomials.specs.Numbers.{ints};
 ghost use Rattle.polynomials.specs.Sum.{listed};
 ghost use Rattle.polynomials.specs.Order.{next, place};
 ghost use Rattle.polynomials.specs.Binomial.{choose, binomials};
-ghost use Rattle.polynomials.specs.Group.{own, value, weight, movedNumber, moved};
+ghost use Rattle.polynomials.specs.Group.{own, value, movedNumber, moved};
 ghost use Rattle.polynomials.specs.Limits.{cap, farthest, highest, against};
-ghost use Rattle.polynomials.specs.Ready.{Readable, Weighable, Movable};
+ghost use Rattle.polynomials.specs.Ready.{Readable, Movable};
 
 // No weight may pass it: 9 x 10^18.
 pub const CAP: u64 = 9_000_000_000_000_000_000;
@@ -149,33 +149,6 @@ pub fn add_term(sum: u64, number: i64, factor: u64) -> Weighed
         return Weighed::Passed;
     }
     Weighed::Within(sum + m * factor)
-}
-
-// The sum with the weight of a group at the reaches r and t, or that it passes the cap.
-pub fn add_weight(group: &[i64], r: i64, t: i64, sum: u64) -> Weighed
-    requires { ⌜ Weighable (now group) r t sum ⌝ }
-    ensures { λ s. ⌜ s ≡ against (sum + weight (now (group .entry)) (natAbs r) (natAbs t)) ⌝ }
-{
-    let rs = powers_of(r);
-    let ts = powers_of(t);
-    let mut total = sum;
-    let mut w = Powers {
-        first: 0,
-        second: 0,
-    };
-    let mut at: usize = 0;
-    while at < group.len() {
-        let p = w.first;
-        let q = w.second;
-        let factor = rs[p] * ts[q];
-        let Weighed::Within(more) = add_term(total, group[at], factor as u64) else {
-            return Weighed::Passed;
-        };
-        total = more;
-        w = w.next();
-        at += 1;
-    }
-    Weighed::Within(total)
 }
 
 // The number that stands at the place `at`, before the powers `w`, once the group is moved by s. The larger powers of the
