@@ -1,5 +1,6 @@
 /* How many bytes of the stack a call of clochecloak_read takes, with its arguments and return address: it runs on a stack of its
- * own that was filled with one byte, and the lowest changed place shows how deep it went. */
+ * own that was filled with one byte, and the lowest changed place shows how deep it went. It reads the published table, and one
+ * that is sound but too near the cap for the quick test, so that both ways through the weight check are met. */
 #include "clochecloak.h"
 #include <stdio.h>
 #include <string.h>
@@ -13,6 +14,8 @@ static int64_t table[CLOCHECLOAK_TABLE], six[6];
 
 static void reads(void) {
     frame = __builtin_frame_address(0);
+    clochecloak_read(table, CLOCHECLOAK_TABLE, 100, 20, -30, 40, -50, six, CLOCHECLOAK_COEFFICIENTS);
+    table[11] = 4000000000000000000, table[61] = 5000000000000000000;
     clochecloak_read(table, CLOCHECLOAK_TABLE, 100, 20, -30, 40, -50, six, CLOCHECLOAK_COEFFICIENTS);
 }
 
