@@ -4,9 +4,9 @@ use super::runs::read_case;
 use layout::BLOCKS;
 use layout::TABLE;
 use layout::VARIABLES;
+use makers::moves::last_accepted;
+use makers::moves::with_sign;
 use std::num::wrapping_add_u64;
-use weighted::borders::last_accepted;
-use weighted::borders::with_sign;
 
 pub fn read(t: &[i64; TABLE], state: [i64; VARIABLES], count: &mut u64) {
     let mut six = [0i64; BLOCKS];

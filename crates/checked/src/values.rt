@@ -15,7 +15,7 @@ use makers::plain::bare;
 use makers::plain::table_length;
 use makers::plain::with_place;
 use makers::plain::with_reading;
-use weighted::terms::CAP;
+use polynomials::CAP;
 use words::minus;
 use words::signed;
 

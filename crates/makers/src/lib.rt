@@ -1,4 +1,5 @@
-// Tables and states for cases: plain ones, drawn states, and drawn changes of a table.
+// Tables, states and moves for cases: plain tables, drawn states, drawn changes of a table, and the largest move it takes.
 pub mod changed;
+pub mod moves;
 pub mod plain;
 pub mod states;

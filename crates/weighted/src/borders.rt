@@ -1,6 +1,5 @@
-// The largest move that a table takes, and tables whose weight is just the cap.
+// Tables whose weight is just the cap.
 ghost use Prim.Native.Nat.{_≤_, _<_};
-use super::terms::CAP;
 use super::terms::largest_within;
 use super::terms::term_at;
 use super::terms::weight_of;
@@ -9,45 +8,15 @@ use layout::LIMITS;
 use layout::TABLE;
 use layout::XI_START;
 use layout::ZETA_START;
-use layout::refusals::DONE;
+use makers::moves::with_sign;
 use makers::plain::bare;
+use polynomials::CAP;
 use std::num::wrapping_sub_u64;
 use words::below;
-use words::minus;
-use words::signed;
-
-// The number of the given size and sign.
-pub fn with_sign(is_negative: bool, size: u64) -> i64 {
-    if is_negative {
-        return minus(0, signed(size));
-    }
-    signed(size)
-}
 
 // A number of the given size, of either sign.
 pub fn of_sign(draws: &mut u64, size: u64) -> i64 {
     with_sign(below(draws, 2) == 1, size)
-}
-
-fn is_accepted(t: &[i64; TABLE], v: usize, shift: i64) -> bool {
-    let mut out = [0i64; TABLE];
-    tables::moving::move_datum(t, v, shift, &mut out) == DONE
-}
-
-// The largest size of an accepted move, by halving: a move by 4001 pushes any good limit out, and acceptance does not come back
-// as the size grows.
-pub fn last_accepted(t: &[i64; TABLE], v: usize, is_down: bool) -> u64 {
-    let mut accepted: u64 = 0;
-    let mut beyond: u64 = 4001;
-    while beyond - accepted > 1 {
-        let middle = (accepted + beyond) / 2;
-        if is_accepted(t, v, with_sign(is_down, middle)) {
-            accepted = middle;
-        } else {
-            beyond = middle;
-        }
-    }
-    accepted
 }
 
 // The largest number that a place of the table takes alone.

@@ -1,4 +1,4 @@
-// Tables made by their weight: random ones, ones whose weight is just the cap; and the largest move that a table takes.
+// Tables made by their weight: random ones, and ones whose weight is just the cap.
 pub mod borders;
 pub mod random;
 pub mod terms;

@@ -11,9 +11,6 @@ use makers::plain::lowest;
 use words::plus;
 use words::times;
 
-// The cap of every weight.
-pub const CAP: u64 = 9_000_000_000_000_000_000;
-
 // A term's two reaches and their powers.
 pub struct Term {
     first: u64,

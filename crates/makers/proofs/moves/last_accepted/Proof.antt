@@ -1,8 +1,8 @@
--- `weighted::borders::last_accepted` meets its contract: the two sizes come closer at each turn. Assumes nothing.
+-- `makers::moves::last_accepted` meets its contract: the two sizes come closer at each turn. Assumes nothing.
 use Prim.Native.Nat.{_≤_, _<_, _-_}
 use borrow.Author.Needs.{needs}
-use Rattle.weighted.proofs.borders.last_accepted.Statement.{statement}
-use Rattle.weighted.proofs.borders.last_accepted.Tie as tie
+use Rattle.makers.proofs.moves.last_accepted.Statement.{statement}
+use Rattle.makers.proofs.moves.last_accepted.Tie as tie
 
 abbrev Inv-loop : tie.InvT-loop
 Inv-loop t v is_down accepted₀ beyond₀ accepted beyond = (accepted < beyond) × (beyond ≤ 4001)
