@@ -11,7 +11,7 @@ use Rattle.cumulus.specs.Published.{published}
 use Rattle.lines.specs.Line.{onto, parse}
 use Rattle.lines.specs.declared.Line.{Line}
 use Rattle.lines.specs.declared.Line.the-variants.{Readings, Malformed}
-use Rattle.printing.specs.Spell.{decimal, spell}
+use Rattle.printing.specs.Spell.{decimal, spell, longestNumber}
 
 -- ════ one answer
 -- each number behind a space
@@ -23,10 +23,7 @@ spaced (x ∷ xs) = (32 ∷ spell x) ++ spaced xs
 abbrev pub numbered : ℕ → List ℤ → List ℕ
 numbered number values = decimal number ++ spaced values ++ 10 ∷ []
 
--- how many bytes a number takes at most, the coefficients each behind a space, and a whole answer with its newline
-abbrev pub longestNumber : ℕ
-longestNumber = 20
-
+-- how many bytes the coefficients take at most, each behind a space, and a whole answer with its newline
 abbrev pub longestValues : ℕ
 longestValues = 6 * (1 + longestNumber)
 

@@ -5,7 +5,7 @@ ghost use Prim.Native.Nat.{_+_, _*_, _/_, _%_, _<_, _≤_};
 ghost use lib.ListN.{length};
 ghost use lib.Seq.{sets};
 ghost use Rattle.printing.specs.Groups.{four, eight, pairs, packed, unpacked};
-ghost use Rattle.printing.specs.Spell.{decimal, spell, written};
+ghost use Rattle.printing.specs.Spell.{decimal, spell, longestNumber, written};
 
 // The four digits of a number as the bytes of one word, the first lowest. The two bytes of a pair of digits, whose number is
 // 10a + b, are a + 256b = 256(10a + b) - 2559a.
@@ -142,7 +142,7 @@ pub fn put_digits(n: u64, out: &mut [u8], at: usize) -> usize
 
 // A number from the place `at` on; gives the place behind it. The longest is the least i64, a minus and 19 digits.
 pub fn put_number(x: i64, out: &mut [u8], at: usize) -> usize
-    requires { ⌜ at + 20 ≤ length (now out) ⌝ }
+    requires { ⌜ at + longestNumber ≤ length (now out) ⌝ }
     ensures place { λ r. ⌜ r ≡ at + length (spell x) ⌝ }
     ensures output { λ r. ⌜ now (out .exit) ≡ written (now (out .entry)) at (spell x) ⌝ }
 {
