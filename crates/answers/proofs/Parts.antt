@@ -36,7 +36,7 @@ part-more l from end h k =
     ∙ take-suc (drop from l) (end - from) 0 (omega (arith, length-drop from l))
     ∙ ap (λ b. part l from end ++ b ∷ []) (getD-drop from l (end - from) 0 ∙ ap (λ n. getD l n 0) d)
 
-pub part-joined : (l : List ℕ) (from end : ℕ) → from ≤ end → take end l ≡ take from l ++ part l from end
+part-joined : (l : List ℕ) (from end : ℕ) → from ≤ end → take end l ≡ take from l ++ part l from end
 part-joined l from end h = let e : end ≡ from + (end - from) = omega arith in ap (λ n. take n l) e ∙ take-add from (end - from) l
 
 pub plain-more : (bs : List ℕ) (b : ℕ) → Plain bs → (b ≡ 10 → ⊥) → Plain (bs ++ b ∷ [])
@@ -55,13 +55,13 @@ module _ (t : List ℤ) where
   step-readings : (r : Reading) (b : ℕ) → (b ≡ 10 → ⊥) → readingAfter r b ≡ record { line = stepped (r .line) b; begun = true }
   step-readings r b h = ap (λ u. cond u fresh (record { line = stepped (r .line) b; begun = true })) (ne-eqb b 10 h)
 
-  pub plain-readings : (r : Reading) (bs : List ℕ) → Plain bs → readingsAfter r bs ≡ record { line = stepsOf (r .line) bs; begun = begunAfter (r .begun) bs }
+  plain-readings : (r : Reading) (bs : List ℕ) → Plain bs → readingsAfter r bs ≡ record { line = stepsOf (r .line) bs; begun = begunAfter (r .begun) bs }
   plain-readings r [] p = refl
   plain-readings r (b ∷ bs) p =
       ap (λ s. readingsAfter s bs) (step-readings r b (p .0)) ∙ plain-readings (record { line = stepped (r .line) b; begun = true }) bs (p .1)
       ∙ ap (λ u. record { line = stepsOf (stepped (r .line) b) bs; begun = u }) (begun-true bs)
 
-  pub plain-answers : (r : Reading) (bs : List ℕ) → Plain bs → answersOf t r bs ≡ []
+  plain-answers : (r : Reading) (bs : List ℕ) → Plain bs → answersOf t r bs ≡ []
   plain-answers r [] p = refl
   plain-answers r (b ∷ bs) p =
       ap₂ _++_ (ap (λ u. cond u (answerOf t (finished (r .line))) []) (ne-eqb b 10 (p .0))) (plain-answers (readingAfter r b) bs (p .1))
@@ -73,10 +73,10 @@ module _ (t : List ℤ) where
   newline-answer r b e = ap (λ u. cond u (answerOf t (finished (r .line))) []) (eq-eqb b 10 e)
 
   module _ (r : Reading) (bs : List ℕ) (b : ℕ) (p : Plain bs) (e : b ≡ 10) where
-    pub newline-readings : readingsAfter r (bs ++ b ∷ []) ≡ fresh
+    newline-readings : readingsAfter r (bs ++ b ∷ []) ≡ fresh
     newline-readings = readings-append r bs (b ∷ []) ∙ newline-reading (readingsAfter r bs) b e
 
-    pub newline-answers : answersOf t r (bs ++ b ∷ []) ≡ answerOf t (finished (stepsOf (r .line) bs))
+    newline-answers : answersOf t r (bs ++ b ∷ []) ≡ answerOf t (finished (stepsOf (r .line) bs))
     newline-answers =
         answers-append t r bs (b ∷ [])
         ∙ ap₂ _++_ (plain-answers r bs p)

@@ -63,17 +63,17 @@ module _ (l : List ℕ) (r t : ℕ) where
   unfolding factor
   factor-place p q k e = let h = powers-place p q in ap factor e ∙ ap₂ (λ a b. r ^ a * t ^ b) (h .0) (h .1)
 
-  pub factor-u : (p q k j : ℕ) → k ≡ place (p + 1) q → j ≡ place p q → factor k ≡ r * factor j
+  factor-u : (p q k j : ℕ) → k ≡ place (p + 1) q → j ≡ place p q → factor k ≡ r * factor j
   factor-u p q k j e d =
       factor-place (p + 1) q k e ∙ ap (λ m. m * t ^ q) (ap (λ n. r ^ n) (add-one p) ∙ N.pow-suc r p ∙ N.mul-comm (r ^ p) r) ∙ N.mul-assoc r (r ^ p) (t ^ q)
       ∙ ap (λ m. r * m) (sym (factor-place p q j d))
 
-  pub factor-v : (p q k j : ℕ) → k ≡ place p (q + 1) → j ≡ place p q → factor k ≡ t * factor j
+  factor-v : (p q k j : ℕ) → k ≡ place p (q + 1) → j ≡ place p q → factor k ≡ t * factor j
   factor-v p q k j e d =
       factor-place p (q + 1) k e ∙ ap (λ m. r ^ p * m) (ap (λ n. t ^ n) (add-one q) ∙ N.pow-suc t q) ∙ sym (N.mul-assoc (r ^ p) (t ^ q) t) ∙ N.mul-comm (r ^ p * t ^ q) t
       ∙ ap (λ m. t * m) (sym (factor-place p q j d))
 
-  pub factor-one : 1 ≤ r → 1 ≤ t → (k : ℕ) → 1 ≤ factor k
+  factor-one : 1 ≤ r → 1 ≤ t → (k : ℕ) → 1 ≤ factor k
   unfolding factor
   factor-one hr ht k = N.mul-le-mul (N.one-le-pow (powers k .first) r hr) (N.one-le-pow (powers k .second) t ht)
 
@@ -89,7 +89,7 @@ module _ (l : List ℕ) (r t : ℕ) where
     folded-is : term nats (set l j more) r t j ≡ more * factor j
     folded-is = term-is (set l j more) j ∙ ap (λ m. m * factor j) (getD-set-same l j more 0 (omega arith))
 
-    pub fold-kept : gathered (set l j more) r t k ≡ gathered l r t (k + 1)
+    fold-kept : gathered (set l j more) r t k ≡ gathered l r t (k + 1)
     fold-kept =
         sum-larger k j (term nats l r t) (term nats (set l j more) r t) (getD l k 0 * n * factor j) before
         (folded-is ∙ N.add-mul (getD l j 0) (getD l k 0 * n) (factor j) ∙ ap (λ m. m + getD l k 0 * n * factor j) (sym (term-is l j)))
@@ -97,7 +97,7 @@ module _ (l : List ℕ) (r t : ℕ) where
         ∙ ap (λ m. gathered l r t k + m) (N.mul-assoc (getD l k 0) n (factor j) ∙ ap (λ m. getD l k 0 * m) (sym e) ∙ sym (term-is l k))
         ∙ sym (ap (gathered l r t) (add-one k) ∙ sum-suc natural k (term nats l r t))
 
-    pub fold-within : 1 ≤ factor j → more ≤ gathered l r t (k + 1)
+    fold-within : 1 ≤ factor j → more ≤ gathered l r t (k + 1)
     fold-within one =
         let a : more ≤ more * factor j = N.le-trans (N.le-of-eq (sym (N.mul-one more))) (N.mul-le-mul-left more one) in
         let b = sum-part (suc j) k (term nats (set l j more) r t) before in

@@ -1,7 +1,7 @@
 // Reading a line of five whole numbers, byte by byte: what is known of the bytes so far is one value, so a line may come in pieces of any size.
 ghost use mathlib.Core.Path.{_≡_};
-ghost use Rattle.lines.specs.Line.{parse, signed};
-ghost use Rattle.lines.specs.State.{start, refused, ended, minus, digit, stepped, stepsOf, finished};
+ghost use Rattle.lines.specs.Line.{signed};
+ghost use Rattle.lines.specs.State.{start, refused, ended, minus, digit, stepped, finished};
 
 // What a line says: the readings in milliradians, or that it is no line of five numbers.
 pub enum Line {
@@ -139,19 +139,6 @@ impl State {
         self.digit(byte - b'0')
     }
 
-    // The bytes of a part of a line, one after the other.
-    pub fn steps(self, bytes: &[u8]) -> State
-        ensures { λ r. ⌜ r ≡ stepsOf self (now (bytes .entry)) ⌝ }
-    {
-        let mut state = self;
-        let mut i: usize = 0;
-        while i < bytes.len() {
-            state = state.step(bytes[i]);
-            i += 1;
-        }
-        state
-    }
-
     // Nothing follows: four words have ended, and the fifth has a digit.
     pub fn finish(self) -> Line
         ensures { λ r. ⌜ r ≡ finished self ⌝ }
@@ -173,11 +160,4 @@ impl State {
             zeta: signed(self.negative, self.value),
         }
     }
-}
-
-// The line that these bytes are, without the newline that ends it.
-pub fn read_line(bytes: &[u8]) -> Line
-    ensures { λ r. ⌜ r ≡ parse (now (bytes .entry)) ⌝ }
-{
-    State::start().steps(bytes).finish()
 }

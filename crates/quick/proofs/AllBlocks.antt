@@ -66,7 +66,7 @@ all-joined-more t start k l m inside h j i li b hb = pick (decLt i k)
         let e : i ≡ k = omega arith in
         N.le-trans (subst (λ n. sizeAt t b (start + n) ≤ m) (sym e) (j b hb)) (N.le-of-eq (sym (ap (λ n. getD (set l k m) n 0) e ∙ getD-set-same l k m 0 inside)))
 
-pub joined-weight : (t : List ℤ) (start : ℕ) (l : List ℕ) (x y : ℕ) → AllJoined t start (length l) l → (b : ℕ) → b < 6 → groupWeight t b start (length l) x y ≤ evaluated nats l x y
+joined-weight : (t : List ℤ) (start : ℕ) (l : List ℕ) (x y : ℕ) → AllJoined t start (length l) l → (b : ℕ) → b < 6 → groupWeight t b start (length l) x y ≤ evaluated nats l x y
 unfolding evaluated term
 joined-weight t start l x y h b hb =
     sum-mono (length l) _ _

@@ -63,7 +63,7 @@ fn budget(draws: &mut u64) -> u64 {
 }
 
 // A number of either sign up to a size.
-pub fn of_size(draws: &mut u64, size: u64) -> i64 {
+fn of_size(draws: &mut u64, size: u64) -> i64 {
     take(draws, minus(0, signed(size)), signed(size))
 }
 

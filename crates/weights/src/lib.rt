@@ -50,7 +50,7 @@ fn fill(part: &mut [u64], r: i64, s: i64)
 
 // The factor of each of the forty terms of a coefficient in one piece: powers of the reaches of alpha and eta for the first
 // ten, of beta and xi for the next fifteen, of beta and zeta for the last fifteen.
-pub fn factors(reaches: [i64; VARIABLES]) -> [u64; TERMS]
+fn factors(reaches: [i64; VARIABLES]) -> [u64; TERMS]
     requires { ⌜ Reaching reaches ⌝ }
     ensures { λ r. ⌜ r ≡ listed terms (factorAt (λ i. natAbs (getD reaches i (pos 0)))) ⌝ }
 {
