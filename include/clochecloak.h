@@ -1,4 +1,4 @@
-/* Clochecloak for C. Link libhost.a, which `rt staticlib host` writes.
+/* Clochecloak for C. Link libclochecloak.a, which `rt staticlib clochecloak` writes.
  *
  * A table is CLOCHECLOAK_TABLE numbers. Readings and shifts are whole milliradians; variables are 0 alpha, 1 beta, 2 xi
  * (aileron), 3 eta (elevator) and 4 zeta (rudder); coefficients are whole units of 10^-17, in the order X, Y, Z, l, m, n.

@@ -15,10 +15,10 @@ use lib.Dec.{eqb}
 use lib.IntN.{ℤ}
 use lib.ListN.{length, take, drop, getD, length-take, length-drop}
 use lib.Seq.{take-suc, getD-drop, take-add}
-use Rattle.lines.specs.State.{stepped, stepsOf, finished}
+use Rattle.lines.specs.State.{stepped, steppedBy, finished}
 use Rattle.lines.proofs.Steps.{steps-append}
 use Rattle.answers.specs.declared.Reading.{Reading}
-use Rattle.answers.specs.Answers.{answerOf, longest}
+use Rattle.answers.specs.Answers.{lineAnswer, longest}
 use Rattle.answers.specs.Reading.{fresh, readingAfter, readingsAfter, answerAt, answersOf, part, Plain, LinePart, Taken}
 use Rattle.answers.specs.declared.Part.{Part}
 use Rattle.printing.specs.Spell.{written}
@@ -55,32 +55,32 @@ module _ (t : List ℤ) where
   step-readings : (r : Reading) (b : ℕ) → (b ≡ 10 → ⊥) → readingAfter r b ≡ record { line = stepped (r .line) b; begun = true }
   step-readings r b h = ap (λ u. cond u fresh (record { line = stepped (r .line) b; begun = true })) (ne-eqb b 10 h)
 
-  plain-readings : (r : Reading) (bs : List ℕ) → Plain bs → readingsAfter r bs ≡ record { line = stepsOf (r .line) bs; begun = begunAfter (r .begun) bs }
+  plain-readings : (r : Reading) (bs : List ℕ) → Plain bs → readingsAfter r bs ≡ record { line = steppedBy (r .line) bs; begun = begunAfter (r .begun) bs }
   plain-readings r [] p = refl
   plain-readings r (b ∷ bs) p =
       ap (λ s. readingsAfter s bs) (step-readings r b (p .0)) ∙ plain-readings (record { line = stepped (r .line) b; begun = true }) bs (p .1)
-      ∙ ap (λ u. record { line = stepsOf (stepped (r .line) b) bs; begun = u }) (begun-true bs)
+      ∙ ap (λ u. record { line = steppedBy (stepped (r .line) b) bs; begun = u }) (begun-true bs)
 
   plain-answers : (r : Reading) (bs : List ℕ) → Plain bs → answersOf t r bs ≡ []
   plain-answers r [] p = refl
   plain-answers r (b ∷ bs) p =
-      ap₂ _++_ (ap (λ u. cond u (answerOf t (finished (r .line))) []) (ne-eqb b 10 (p .0))) (plain-answers (readingAfter r b) bs (p .1))
+      ap₂ _++_ (ap (λ u. cond u (lineAnswer t (finished (r .line))) []) (ne-eqb b 10 (p .0))) (plain-answers (readingAfter r b) bs (p .1))
 
   newline-reading : (r : Reading) (b : ℕ) → b ≡ 10 → readingAfter r b ≡ fresh
   newline-reading r b e = ap (λ u. cond u fresh (record { line = stepped (r .line) b; begun = true })) (eq-eqb b 10 e)
 
-  newline-answer : (r : Reading) (b : ℕ) → b ≡ 10 → answerAt t r b ≡ answerOf t (finished (r .line))
-  newline-answer r b e = ap (λ u. cond u (answerOf t (finished (r .line))) []) (eq-eqb b 10 e)
+  newline-answer : (r : Reading) (b : ℕ) → b ≡ 10 → answerAt t r b ≡ lineAnswer t (finished (r .line))
+  newline-answer r b e = ap (λ u. cond u (lineAnswer t (finished (r .line))) []) (eq-eqb b 10 e)
 
   module _ (r : Reading) (bs : List ℕ) (b : ℕ) (p : Plain bs) (e : b ≡ 10) where
     newline-readings : readingsAfter r (bs ++ b ∷ []) ≡ fresh
     newline-readings = readings-append r bs (b ∷ []) ∙ newline-reading (readingsAfter r bs) b e
 
-    newline-answers : answersOf t r (bs ++ b ∷ []) ≡ answerOf t (finished (stepsOf (r .line) bs))
+    newline-answers : answersOf t r (bs ++ b ∷ []) ≡ lineAnswer t (finished (steppedBy (r .line) bs))
     newline-answers =
         answers-append t r bs (b ∷ [])
         ∙ ap₂ _++_ (plain-answers r bs p)
-        (append-nil (answerAt t (readingsAfter r bs) b) ∙ newline-answer (readingsAfter r bs) b e ∙ ap (λ (s : Reading). answerOf t (finished (s .line))) (plain-readings r bs p))
+        (append-nil (answerAt t (readingsAfter r bs) b) ∙ newline-answer (readingsAfter r bs) b e ∙ ap (λ (s : Reading). lineAnswer t (finished (s .line))) (plain-readings r bs p))
 
 -- ---- a line's part, taken
 plain-left : (xs ys : List ℕ) → Plain (xs ++ ys) → Plain xs
@@ -116,14 +116,14 @@ module _ (t : List ℤ) (r : Reading) (input : List ℕ) (from : ℕ) (out : Lis
       }
 
   -- up to a newline, with the line's answer
-  pub took-line : (out′ : List ℕ) (put : ℕ) → p .end < length input → put ≡ at + length (answerOf t (finished (p .line))) → out′ ≡ written out at (answerOf t (finished (p .line))) → put ≤ at + longest
+  pub took-line : (out′ : List ℕ) (put : ℕ) → p .end < length input → put ≡ at + length (lineAnswer t (finished (p .line))) → out′ ≡ written out at (lineAnswer t (finished (p .line))) → put ≤ at + longest
       → Taken t r input from out out′ at (record { reading = fresh; taken = p .end + 1; put = put })
   took-line out′ put h place output room =
       let byte = getD input (p .end) 0 in
       let bs = part input from (p .end) in
       let more = part-more input from (p .end) (l .forward) h in
-      let all : answersOf t r (part input from (p .end + 1)) ≡ answerOf t (finished (p .line)) =
-      ap (answersOf t r) more ∙ newline-answers t r bs byte (l .plain) (l .newline h) ∙ ap (λ s. answerOf t (finished s)) (sym (l .line)) in
+      let all : answersOf t r (part input from (p .end + 1)) ≡ lineAnswer t (finished (p .line)) =
+      ap (answersOf t r) more ∙ newline-answers t r bs byte (l .plain) (l .newline h) ∙ ap (λ s. lineAnswer t (finished s)) (sym (l .line)) in
       record {
         forward = omega (arith, l .forward);
         within = omega arith;

@@ -9,11 +9,11 @@ use Prim.Native.Nat.{ℕ}
 use lib.Dec.{eqb}
 use lib.IntN.{ℤ}
 use Rattle.lines.specs.Line.{onto, parse}
-use Rattle.lines.specs.State.{start, stepped, stepsOf, finished}
+use Rattle.lines.specs.State.{start, stepped, steppedBy, finished}
 use Rattle.lines.proofs.Parsed.{parsed}
 use Rattle.lines.proofs.Steps.{steps-append}
 use Rattle.answers.specs.declared.Reading.{Reading}
-use Rattle.answers.specs.Answers.{answerOf, linesOf, answered, program}
+use Rattle.answers.specs.Answers.{lineAnswer, linesOf, answered, program}
 use Rattle.answers.specs.Reading.{fresh, readingAfter, readingsAfter, answerAt, answersOf, lastAnswer}
 
 -- ════ pieces
@@ -53,14 +53,14 @@ begun [] = false
 begun (p ∷ ps) = true
 
 reading : List ℕ → Reading
-reading ps = record { line = stepsOf start ps; begun = begun ps }
+reading ps = record { line = steppedBy start ps; begun = begun ps }
 
 begun-last : (ps : List ℕ) (b : ℕ) → begun (ps ++ b ∷ []) ≡ true
 unfolding begun
 begun-last [] b = refl
 begun-last (p ∷ ps) b = refl
 
-reading-last : (ps : List ℕ) (b : ℕ) → reading (ps ++ b ∷ []) ≡ record { line = stepped (stepsOf start ps) b; begun = true }
+reading-last : (ps : List ℕ) (b : ℕ) → reading (ps ++ b ∷ []) ≡ record { line = stepped (steppedBy start ps) b; begun = true }
 unfolding reading
 reading-last ps b = ap₂ (λ s t. record { line = s; begun = t }) (steps-append start ps (b ∷ [])) (begun-last ps b)
 
@@ -73,16 +73,16 @@ module _ (t : List ℤ) where
   unfolding reading begun ontoAll
   last-line [] = refl
   last-line (p ∷ ps) =
-      ap (answerOf t) (parsed (p ∷ ps)) ∙ sym (append-nil (answerOf t (parse (p ∷ ps)))) ∙ ap (answered t) (sym (onto-none p ps))
+      ap (lineAnswer t) (parsed (p ∷ ps)) ∙ sym (append-nil (lineAnswer t (parse (p ∷ ps)))) ∙ ap (answered t) (sym (onto-none p ps))
 
   one : (b : ℕ) (bs ps : List ℕ) → ((qs : List ℕ) → written-from (reading qs) bs ≡ answered t (ontoAll qs (linesOf bs))) → (u : Bool)
-      → (cond u (answerOf t (finished (stepsOf start ps))) [] ++ answersOf t (cond u fresh (record { line = stepped (stepsOf start ps) b; begun = true })) bs)
-      ++ lastAnswer t (readingsAfter (cond u fresh (record { line = stepped (stepsOf start ps) b; begun = true })) bs)
+      → (cond u (lineAnswer t (finished (steppedBy start ps))) [] ++ answersOf t (cond u fresh (record { line = stepped (steppedBy start ps) b; begun = true })) bs)
+      ++ lastAnswer t (readingsAfter (cond u fresh (record { line = stepped (steppedBy start ps) b; begun = true })) bs)
       ≡ answered t (ontoAll ps (cond u ([] ∷ linesOf bs) (onto b (linesOf bs))))
   unfolding written-from reading begun ontoAll
   one b bs ps ih true =
-      append-assoc (answerOf t (finished (stepsOf start ps))) (answersOf t fresh bs) (lastAnswer t (readingsAfter fresh bs))
-      ∙ ap₂ (λ l rest. answerOf t l ++ rest) (parsed ps) (ih [])
+      append-assoc (lineAnswer t (finished (steppedBy start ps))) (answersOf t fresh bs) (lastAnswer t (readingsAfter fresh bs))
+      ∙ ap₂ (λ l rest. lineAnswer t l ++ rest) (parsed ps) (ih [])
       ∙ ap (λ l. answered t (l ∷ linesOf bs)) (sym (append-nil ps))
       ∙ ap (answered t) (sym (onto-some ps [] (linesOf bs)))
   one b bs ps ih false =

@@ -35,24 +35,24 @@ abbrev pub zeros : List ℤ
 zeros = replicate 6 (pos 0)
 
 -- what a table answers to a line
-unfoldable pub answerOf : List ℤ → Line → List ℕ
-answerOf t Malformed = numbered 31 zeros
-answerOf t (Readings alpha beta xi eta zeta) =
+unfoldable pub lineAnswer : List ℤ → Line → List ℕ
+lineAnswer t Malformed = numbered 31 zeros
+lineAnswer t (Readings alpha beta xi eta zeta) =
     let x = alpha ∷ beta ∷ xi ∷ eta ∷ zeta ∷ [] in
     numbered (readNumber cumulus t (readings x) zeros) (readOutput cumulus t (readings x) zeros)
 
 -- ════ all of them
 -- the lines of an input: each ends at a newline, and a last one without it counts where it has a byte
-abbrev pub cut : ℕ → List (List ℕ) → List (List ℕ)
-cut b ls = cond (eqb b 10) ([] ∷ ls) (onto b ls)
+abbrev pub withByte : ℕ → List (List ℕ) → List (List ℕ)
+withByte b ls = cond (eqb b 10) ([] ∷ ls) (onto b ls)
 
 abbrev pub linesOf : List ℕ → List (List ℕ)
 linesOf [] = []
-linesOf (b ∷ bs) = cut b (linesOf bs)
+linesOf (b ∷ bs) = withByte b (linesOf bs)
 
 abbrev pub answered : List ℤ → List (List ℕ) → List ℕ
 answered t [] = []
-answered t (l ∷ ls) = answerOf t (parse l) ++ answered t ls
+answered t (l ∷ ls) = lineAnswer t (parse l) ++ answered t ls
 
 unfoldable pub program : List ℤ → List ℕ → List ℕ
 program t input = answered t (linesOf input)

@@ -6,11 +6,11 @@ use Prim.Native.Nat.{ℕ, _+_, _-_, _<_, _≤_}
 use lib.Dec.{eqb}
 use lib.IntN.{ℤ}
 use lib.ListN.{length, take, drop, getD}
-use Rattle.lines.specs.State.{start, stepped, stepsOf, finished}
+use Rattle.lines.specs.State.{start, stepped, steppedBy, finished}
 use Rattle.lines.specs.declared.State.{State}
 use Rattle.tables.specs.Ready.{tableNumber}
 use Rattle.printing.specs.Spell.{written}
-use Rattle.answers.specs.Answers.{answerOf, longest}
+use Rattle.answers.specs.Answers.{lineAnswer, longest}
 use Rattle.answers.specs.declared.Reading.{Reading}
 use Rattle.answers.specs.declared.Fed.{Fed}
 use Rattle.answers.specs.declared.Part.{Part}
@@ -27,7 +27,7 @@ readingsAfter r (b ∷ bs) = readingsAfter (readingAfter r b) bs
 
 -- a newline ends a line, which is answered
 abbrev pub answerAt : List ℤ → Reading → ℕ → List ℕ
-answerAt t r b = cond (eqb b 10) (answerOf t (finished (r .line))) []
+answerAt t r b = cond (eqb b 10) (lineAnswer t (finished (r .line))) []
 
 abbrev pub answersOf : List ℤ → Reading → List ℕ → List ℕ
 answersOf t r [] = []
@@ -35,7 +35,7 @@ answersOf t r (b ∷ bs) = answerAt t r b ++ answersOf t (readingAfter r b) bs
 
 -- at the end of the input, a line that has a byte counts
 abbrev pub lastAnswer : List ℤ → Reading → List ℕ
-lastAnswer t r = cond (r .begun) (answerOf t (finished (r .line))) []
+lastAnswer t r = cond (r .begun) (lineAnswer t (finished (r .line))) []
 
 -- ════ a part of the input: from a place on up to another
 abbrev pub part : List ℕ → ℕ → ℕ → List ℕ
@@ -50,7 +50,7 @@ Plain (b ∷ bs) = (b ≡ 10 → ⊥) × Plain bs
 pub record LinePart (s : State) (input : List ℕ) (from : ℕ) (p : Part) : Type 0 where
   pub forward : from ≤ p .end
   pub within : p .end ≤ length input
-  pub line : p .line ≡ stepsOf s (part input from (p .end))
+  pub line : p .line ≡ steppedBy s (part input from (p .end))
   pub plain : Plain (part input from (p .end))
   pub newline : p .end < length input → getD input (p .end) 0 ≡ 10
 

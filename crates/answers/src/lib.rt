@@ -3,7 +3,7 @@ ghost use mathlib.Core.Path.{_≡_};
 ghost use Prim.Native.Nat.{_+_, _≤_};
 ghost use lib.ListN.{length};
 ghost use Rattle.printing.specs.Spell.{written};
-ghost use Rattle.answers.specs.Answers.{spaced, numbered, answerOf, longestValues, longest};
+ghost use Rattle.answers.specs.Answers.{spaced, numbered, lineAnswer, longestValues, longest};
 ghost use Rattle.tables.specs.Ready.{tableNumber};
 ghost use Rattle.answers.specs.Reading.{fresh, lastAnswer, Feeding, LinePart, Taking, Taken};
 use lines::Line;
@@ -71,8 +71,8 @@ fn put_answer(number: u64, values: [i64; 6], out: &mut [u8], at: usize) -> usize
 // The answer of a table, whose own refusal is known, to a line, from the place `at` on; gives the place behind it.
 fn put_line(table: &[i64], refused: u64, line: Line, out: &mut [u8], at: usize) -> usize
     requires { ⌜ (refused ≡ tableNumber (now table)) × (at + longest ≤ length (now out)) ⌝ }
-    ensures place { λ r. ⌜ r ≡ at + length (answerOf (now (table .entry)) line) ⌝ }
-    ensures output { λ r. ⌜ now (out .exit) ≡ written (now (out .entry)) at (answerOf (now (table .entry)) line) ⌝ }
+    ensures place { λ r. ⌜ r ≡ at + length (lineAnswer (now (table .entry)) line) ⌝ }
+    ensures output { λ r. ⌜ now (out .exit) ≡ written (now (out .entry)) at (lineAnswer (now (table .entry)) line) ⌝ }
     ensures room { λ r. ⌜ r ≤ at + longest ⌝ }
 {
     let mut values = [0i64; 6];

@@ -15,7 +15,7 @@ use Rattle.polynomials.specs.Groups.{Group, weightOf, totalWeight, movedGroup, 
 use Rattle.polynomials.specs.Limits.{cap}
 use Rattle.polynomials.proofs.Together.{length-movedIf}
 use Rattle.layout.specs.Shape.{kindsLength, cumulus}
-use Rattle.layout.specs.Blocks.{low, high, groups, numbers, chosen}
+use Rattle.layout.specs.Blocks.{low, high, groups, laidOut, chosen}
 use Rattle.layout.specs.Moving.{movedBlock}
 use Rattle.blocks.specs.Ready.{grouped, between, placed, shiftReach, ShiftableGroup, Between, Shiftable}
 use Rattle.blocks.proofs.Filled.{length-placed, take-placed}
@@ -72,8 +72,8 @@ module _ (i : ℕ) (s : ℤ) (l : List ℤ) (ready : Shiftable i s l) where
   moved = part 0 3 0 10 ++ (part 0 3 10 20 ++ (part 1 2 20 35 ++ (part 1 4 35 50 ++ [])))
 
   moved-parts : movedBlock cumulus i s l ≡ moved
-  unfolding movedBlock numbers
-  moved-parts = ap (λ gs. numbers (movedGroups i s gs)) (groups-between l)
+  unfolding movedBlock laidOut
+  moved-parts = ap (λ gs. laidOut (movedGroups i s gs)) (groups-between l)
 
   -- the output after each of the four is placed
   module _ (out : List ℤ) (same : length out ≡ length l) where

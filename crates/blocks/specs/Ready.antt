@@ -6,7 +6,7 @@ use lib.IntN.{ℤ, pos, natAbs}
 use lib.ListN.{length, getD, take, drop}
 use Rattle.polynomials.specs.Order.{size}
 use Rattle.polynomials.specs.Groups.{Group, weightOf, totalWeight, longer}
-use Rattle.polynomials.specs.Limits.{cap, farthest, highest}
+use Rattle.polynomials.specs.Limits.{cap, farthest, highestDegree}
 use Rattle.layout.specs.Shape.{tableLength, blockLength, cumulus}
 use Rattle.layout.specs.Blocks.{Piece, piece, groups, chosen, coefficient}
 use Rattle.layout.specs.Reading.{readings}
@@ -29,7 +29,7 @@ shiftReach i s = longer i (natAbs s) (λ k. 1)
 -- to move a group in the variables u and v by s in variable i
 pub record ShiftableGroup (u v i : ℕ) (s : ℤ) (l : List ℤ) : Type 0 where
   pub apart : u ≡ v → ⊥
-  pub few : length l ≤ size highest
+  pub few : length l ≤ size highestDegree
   pub near : natAbs s ≤ farthest
   pub light : weightOf (grouped u v l) (shiftReach i s) ≤ cap
 

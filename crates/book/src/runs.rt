@@ -11,9 +11,9 @@ use super::lines::put_word;
 use super::lines::start;
 use layout::VARIABLES;
 use layout::refusals::DONE;
+use modular::checksum;
+use modular::signed;
 use std::num::wrapping_add_u64;
-use words::checksum;
-use words::signed;
 
 const CANARY: u64 = 1234567890123456789;
 

@@ -6,8 +6,8 @@ use makers::plain::ZEROS;
 use makers::plain::highest;
 use makers::plain::lowest;
 use makers::plain::with_reading;
-use words::minus;
-use words::plus;
+use modular::minus;
+use modular::plus;
 
 // Next to the ends of 64 bits.
 pub const LEAST_BUT_ONE: i64 = -9223372036854775807;

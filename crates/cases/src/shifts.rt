@@ -9,8 +9,8 @@ use makers::plain::bare;
 use makers::plain::highest;
 use makers::plain::lowest;
 use makers::plain::promised;
-use words::minus;
-use words::plus;
+use modular::minus;
+use modular::plus;
 
 // A shift about 0 or the promised size, one that brings a limit to 0, to the end of its range or just past it, or one that is
 // too far for any.

@@ -15,9 +15,9 @@ use makers::plain::bare;
 use makers::plain::table_length;
 use makers::plain::with_place;
 use makers::plain::with_reading;
+use modular::minus;
+use modular::signed;
 use polynomials::CAP;
-use words::minus;
-use words::signed;
 
 // Into the first places of an output.
 fn publish_into(room: &mut [i64], end: usize, count: &mut u64)

@@ -31,7 +31,7 @@ use Rattle.limits.proofs.Firsts.{first-past, first-none, first-at}
 use Rattle.tables.proofs.Steps.{first-apart}
 use Rattle.rounding.specs.Value.{numerator, denominator}
 use Rattle.rounding.specs.Nearest.{IsNearest}
-use Rattle.rounding.specs.Answer.{answerOf}
+use Rattle.rounding.specs.Answer.{floatOf}
 use Rattle.rounding.proofs.Nearest.{reading-nearest}
 use Rattle.rounding.proofs.Answers.{zero-positive}
 use Rattle.door.specs.declared.Answer.{Answer}
@@ -111,16 +111,16 @@ module _ (t : List ℤ) (x : ℕ → Float) where
         (sym (eq-eqb (length zeros) 6 (length-listed 6 (λ b. pos 0))))
 
     -- And each of the six floats is that of the number which the whole-number read leaves in six zeros.
-    pub value-read : (b : ℕ) → b < 6 → doorValue cumulus t x b ≡ answerOf (getD (readOutput cumulus t (roundedAll x) zeros) b (pos 0))
+    pub value-read : (b : ℕ) → b < 6 → doorValue cumulus t x b ≡ floatOf (getD (readOutput cumulus t (roundedAll x) zeros) b (pos 0))
     value-read b h = go (decLt 0 (doorNumber cumulus t x))
       where
-        go : Dec (0 < doorNumber cumulus t x) → doorValue cumulus t x b ≡ answerOf (getD (readOutput cumulus t (roundedAll x) zeros) b (pos 0))
+        go : Dec (0 < doorNumber cumulus t x) → doorValue cumulus t x b ≡ floatOf (getD (readOutput cumulus t (roundedAll x) zeros) b (pos 0))
         go (no n) =
             let e : doorNumber cumulus t x ≡ 0 = omega arith in
-            value-done t x e b ∙ ap answerOf (sym (getD-values b h)) ∙ ap (λ l. answerOf (getD l b (pos 0))) (sym (read-given cumulus t (roundedAll x) zeros (sym number-read ∙ e)))
+            value-done t x e b ∙ ap floatOf (sym (getD-values b h)) ∙ ap (λ l. floatOf (getD l b (pos 0))) (sym (read-given cumulus t (roundedAll x) zeros (sym number-read ∙ e)))
         go (yes n) =
-            zero-refused t x (doorNumber cumulus t x) refl n b ∙ sym zero-positive ∙ ap answerOf (sym (getD-listed 6 (λ k. pos 0) b (pos 0) h))
-            ∙ ap (λ l. answerOf (getD l b (pos 0))) (sym (read-kept cumulus t (roundedAll x) zeros (sym number-read) n))
+            zero-refused t x (doorNumber cumulus t x) refl n b ∙ sym zero-positive ∙ ap floatOf (sym (getD-listed 6 (λ k. pos 0) b (pos 0) h))
+            ∙ ap (λ l. floatOf (getD l b (pos 0))) (sym (read-kept cumulus t (roundedAll x) zeros (sym number-read) n))
 
   -- On a refusal the six are positive zero.
   pub zero-on-refusal : (doorNumber cumulus t x ≡ 0 → ⊥) → (b : ℕ) → doorValue cumulus t x b ≡ positiveZero

@@ -15,7 +15,7 @@ use Rattle.layout.specs.Sound.{light}
 use Rattle.layout.specs.Refusals.{Refusal, _when_, first, unlessRefused, wrongTable, badLimits, tooHeavy, outside}
 use Rattle.layout.specs.Reading.{pieceAt}
 use Rattle.rounding.specs.Reading.{wholeOf, stepOf}
-use Rattle.rounding.specs.Answer.{answerOf}
+use Rattle.rounding.specs.Answer.{floatOf}
 use Rattle.rounding.specs.declared.Step.{Step}
 use Rattle.door.specs.Steps.{positiveZero, numberOf, handedBack, isNotFinite, isOutside}
 use Rattle.door.specs.declared.Answer.{Answer}
@@ -64,7 +64,7 @@ doorReading S t x = readingFor S (stepAt t x) (doorNumber S t x)
 
 -- the float of block b: the whole-number answer at the rounded readings, whose piece they choose; positive zero on a refusal
 abbrev pub floatAt : Shape → List ℤ → (ℕ → ℤ) → ℕ → Float
-floatAt S t w b = answerOf (total (coefficient S t b (pieceAt t w)) w)
+floatAt S t w b = floatOf (total (coefficient S t b (pieceAt t w)) w)
 
 unfoldable pub doorValue : Shape → List ℤ → (ℕ → Float) → ℕ → Float
 doorValue S t x b = unlessRefused (doorNumber S t x) (floatAt S t (roundedAll x) b) positiveZero

@@ -9,7 +9,7 @@ ghost use Rattle.layout.specs.Limits.{allInRange};
 ghost use Rattle.layout.specs.Blocks.{coefficient, piece as pieceOf};
 ghost use Rattle.layout.specs.Refusals.{first};
 ghost use Rattle.layout.specs.Reading.{readings as wholes};
-ghost use Rattle.rounding.specs.Answer.{answerOf};
+ghost use Rattle.rounding.specs.Answer.{floatOf};
 ghost use Rattle.blocks.specs.Ready.{Valued};
 ghost use Rattle.door.specs.Steps.{positiveZero, wholeIn, stepsOf};
 ghost use Rattle.door.specs.Door.{floats, stepAt, notFinites, outsides, readingFor, answerWith, refusedWith, doorAnswer};
@@ -127,7 +127,7 @@ fn wholes_in(steps: [Step; VARIABLES]) -> [i64; VARIABLES]
 // The float of one coefficient at whole readings, in the low piece (0) or the high one.
 fn float_at(table: &[i64], block: usize, piece: usize, state: [i64; VARIABLES]) -> f64
     requires { ⌜ Valued (now table) block piece state ⌝ }
-    ensures { λ r. ⌜ r ≡ answerOf (total (coefficient cumulus (now (table .entry)) block (pieceOf piece)) (wholes state)) ⌝ }
+    ensures { λ r. ⌜ r ≡ floatOf (total (coefficient cumulus (now (table .entry)) block (pieceOf piece)) (wholes state)) ⌝ }
 {
     rounding::answer(blocks::coefficient_at(table, block, piece, state))
 }
@@ -135,7 +135,7 @@ fn float_at(table: &[i64], block: usize, piece: usize, state: [i64; VARIABLES]) 
 // The six floats at whole readings.
 fn answered(table: &[i64], piece: usize, state: [i64; VARIABLES]) -> Answer
     requires { ⌜ ((b : ℕ) → b < cumulus .blocks → Valued (now table) b piece state) ⌝ }
-    ensures { λ r. ⌜ r ≡ answerWith 0 positiveZero (λ b. answerOf (total (coefficient cumulus (now (table .entry)) b (pieceOf piece)) (wholes state))) ⌝ }
+    ensures { λ r. ⌜ r ≡ answerWith 0 positiveZero (λ b. floatOf (total (coefficient cumulus (now (table .entry)) b (pieceOf piece)) (wholes state))) ⌝ }
 {
     Answer {
         number: DONE,

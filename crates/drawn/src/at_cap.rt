@@ -9,6 +9,8 @@ use layout::VARIABLES;
 use makers::plain::NUMBERS;
 use makers::plain::bare;
 use makers::plain::with_place;
+use modular::below;
+use modular::take;
 use std::num::wrapping_add_u64;
 use weighted::borders::filling_place;
 use weighted::borders::full_number;
@@ -16,8 +18,6 @@ use weighted::borders::of_sign;
 use weighted::borders::one_in_each_block;
 use weighted::borders::rest_of_cap;
 use weighted::random::good_limits;
-use words::below;
-use words::take;
 
 // Reads the table with a number of the given size at a place, and gives it back.
 fn read_with(

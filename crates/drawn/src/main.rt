@@ -8,7 +8,7 @@ mod uses;
 use layout::TABLE;
 use makers::plain::NUMBERS;
 use makers::plain::published;
-use words::seeded;
+use modular::seeded;
 
 enum Section {
     Reads,

@@ -9,11 +9,11 @@ use layout::TABLE;
 use layout::VARIABLES;
 use layout::refusals::DONE;
 use makers::plain::promised;
+use modular::below;
+use modular::minus;
+use modular::plus;
+use modular::take;
 use weighted::random::random_table;
-use words::below;
-use words::minus;
-use words::plus;
-use words::take;
 
 // A move whose table is used if it is accepted.
 pub fn move_within(draws: &mut u64, t: &[i64; TABLE], v: usize, size: i64, count: &mut u64)

@@ -7,8 +7,8 @@ use layout::VARIABLES;
 use makers::changed::damaged;
 use makers::changed::nudged;
 use makers::changed::spoil_limits;
-use words::below;
-use words::take;
+use modular::below;
+use modular::take;
 
 pub fn bad_limits(draws: &mut u64, t: &[i64; TABLE], count: &mut u64) {
     let spoilt = spoil_limits(draws, t);

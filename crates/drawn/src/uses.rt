@@ -7,7 +7,7 @@ use layout::refusals::DONE;
 use makers::plain::with_reading;
 use makers::states::inside_state;
 use makers::states::spoil_state;
-use words::minus;
+use modular::minus;
 
 pub fn read_inside(draws: &mut u64, t: &[i64; TABLE], count: &mut u64) {
     let state = inside_state(draws, t);

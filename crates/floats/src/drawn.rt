@@ -6,6 +6,13 @@ use makers::changed::nudged;
 use makers::changed::spoil_limits;
 use makers::plain::highest;
 use makers::plain::lowest;
+use modular::below;
+use modular::minus;
+use modular::next;
+use modular::plus;
+use modular::signed;
+use modular::take;
+use modular::word;
 use patterns::bits::SPECIALS;
 use patterns::bits::eighths;
 use patterns::bits::in_eighths;
@@ -15,13 +22,6 @@ use patterns::runs::float_case;
 use weighted::borders::one_in_each_block;
 use weighted::random::good_limits;
 use weighted::random::random_table;
-use words::below;
-use words::minus;
-use words::next;
-use words::plus;
-use words::signed;
-use words::take;
-use words::word;
 
 // A limit, or 0 where it is far out: eighths of good limits are exact.
 fn near_limit(x: i64) -> i64 {

@@ -8,6 +8,10 @@ use makers::plain::highest;
 use makers::plain::lengthened;
 use makers::plain::lowest;
 use makers::plain::table_length;
+use modular::minus;
+use modular::plus;
+use modular::signed;
+use modular::word;
 use patterns::bits::INFINITY;
 use patterns::bits::QUIET_NAN;
 use patterns::bits::SPECIALS;
@@ -17,10 +21,6 @@ use patterns::bits::pattern_of;
 use patterns::bits::special as special_pattern;
 use patterns::bits::with_pattern;
 use patterns::runs::float_case;
-use words::minus;
-use words::plus;
-use words::signed;
-use words::word;
 
 const ZEROS: [u64; VARIABLES] = [0; VARIABLES];
 

@@ -5,7 +5,7 @@ mod listed;
 
 use layout::TABLE;
 use makers::plain::published;
-use words::seeded;
+use modular::seeded;
 
 enum Section {
     Checked,

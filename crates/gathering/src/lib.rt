@@ -5,7 +5,7 @@ ghost use lib.ListN.{length, set};
 ghost use Rattle.polynomials.specs.Numbers.{nats};
 ghost use Rattle.polynomials.specs.Order.{size};
 ghost use Rattle.polynomials.specs.Group.{evaluated};
-ghost use Rattle.polynomials.specs.Limits.{cap, highest, against};
+ghost use Rattle.polynomials.specs.Limits.{cap, highestDegree, against};
 ghost use Rattle.gathering.specs.Folding.{gathered, folded, told, Reached, Folding};
 use polynomials::CAP;
 use polynomials::Powers;
@@ -62,7 +62,7 @@ fn fold_back(numbers: &mut [u64], at: usize, w: Powers, u: Reach, v: Reach) -> b
 // The weight of a group of magnitudes at the reaches r and t, or that it passes the cap. From the last to the first, each number is
 // folded into one of a smaller degree, until all of the weight stands at the first place; the numbers are used up.
 pub fn gather(numbers: &mut [u64], degree: usize, r: u64, t: u64) -> Weighed
-    requires { ⌜ (length (now numbers) ≡ size degree) × ((degree ≤ highest) × ((1 ≤ r) × (1 ≤ t))) ⌝ }
+    requires { ⌜ (length (now numbers) ≡ size degree) × ((degree ≤ highestDegree) × ((1 ≤ r) × (1 ≤ t))) ⌝ }
     ensures { λ w. ⌜ w ≡ against (evaluated nats (now (numbers .entry)) r t) ⌝ }
 {
     let u = Reach::of(r);

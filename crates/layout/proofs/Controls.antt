@@ -12,9 +12,9 @@ use Rattle.polynomials.specs.Binomial.{choose}
 use Rattle.polynomials.specs.Group.{number, term, evaluated, given, movedNumber, replaced}
 use Rattle.polynomials.specs.Groups.{total, totalWeight, movedGroup, longer}
 use Rattle.layout.specs.Shape.{Kind, Shape, limitsLength, lowestPlace, highestPlace, kindsLength, blockLength, blockStart, tableLength, cumulus}
-use Rattle.layout.specs.Numbers.{limits, block, pitch, side, xiStart, zetaStart}
+use Rattle.layout.specs.Numbers.{limitsSize, blockSize, pitchSize, sideSize, xiStart, zetaStart}
 use Rattle.layout.specs.Limits.{every, allInRange, good}
-use Rattle.layout.specs.Blocks.{low, high, groups, numbers, chosen, coefficient}
+use Rattle.layout.specs.Blocks.{low, high, groups, laidOut, chosen, coefficient}
 use Rattle.layout.specs.Sound.{reach, withinCap, sound}
 use Rattle.layout.specs.Refusals.{first}
 use Rattle.layout.specs.Reading.{readings, values, readNumber, readOutput}
@@ -25,7 +25,7 @@ lengths : limitsLength cumulus ∷ tableLength cumulus ∷ [] ≡ 11 ∷ 311 ∷
 unfolding kindsLength below
 lengths = refl
 
-named : limits ∷ block ∷ pitch ∷ side ∷ xiStart ∷ (zetaStart + side) ∷ [] ≡ limitsLength cumulus ∷ blockLength cumulus ∷ size 3 ∷ size 4 ∷ (size 3 + size 3) ∷ blockLength cumulus ∷ []
+named : limitsSize ∷ blockSize ∷ pitchSize ∷ sideSize ∷ xiStart ∷ (zetaStart + sideSize) ∷ [] ≡ limitsLength cumulus ∷ blockLength cumulus ∷ size 3 ∷ size 4 ∷ (size 3 + size 3) ∷ blockLength cumulus ∷ []
 unfolding kindsLength below
 named = refl
 
@@ -68,7 +68,7 @@ lines-read = refl
 -- by 4 in u: limits -14, -1 and 16, then 128 + 7 u - 2 v and -3 - u
 lines-moved : movedTable line 0 (pos 4) lines
     ≡ (negℤ (pos 14) ∷ negℤ (pos 1) ∷ pos 16 ∷ negℤ (pos 5) ∷ pos 0 ∷ []) ++ (pos 128 ∷ pos 7 ∷ negℤ (pos 2) ∷ []) ++ (negℤ (pos 3) ∷ negℤ (pos 1) ∷ pos 0 ∷ [])
-unfolding sum listed powers below choose number term evaluated given movedNumber replaced movedGroup kindsLength groups numbers movedLimit movedLimits movedBlock joined movedTable pow one
+unfolding sum listed powers below choose number term evaluated given movedNumber replaced movedGroup kindsLength groups laidOut movedLimit movedLimits movedBlock joined movedTable pow one
 lines-moved = refl
 
 -- ════ the order of the refusals

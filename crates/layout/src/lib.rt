@@ -6,18 +6,18 @@ pub const VARIABLES: usize = 5;
 
 pub const BLOCKS: usize = 6;
 
-// The limits come first, then the blocks.
-pub const LIMITS: usize = 11;
+// The limits come first: lowest and highest of each variable, and the cut of alpha.
+pub const LIMITS: usize = 1 + 2 * VARIABLES;
 
-pub const BLOCK: usize = 50;
-
-pub const TABLE: usize = 311;
-
-// In a block: the low and the high group in alpha and eta, then the side groups in beta and xi and in beta and zeta.
+// Then the blocks. In a block: the low and the high group in alpha and eta, then the side groups in beta and xi and in beta and zeta.
 pub const PITCH: usize = 10;
 
 pub const SIDE: usize = 15;
 
-pub const XI_START: usize = 20;
+pub const XI_START: usize = PITCH + PITCH;
 
-pub const ZETA_START: usize = 35;
+pub const ZETA_START: usize = XI_START + SIDE;
+
+pub const BLOCK: usize = ZETA_START + SIDE;
+
+pub const TABLE: usize = LIMITS + BLOCK * BLOCKS;

@@ -15,8 +15,8 @@ use lib.ListN.{length, drop}
 use Rattle.lines.specs.declared.Line.{Line}
 use Rattle.lines.specs.declared.Line.the-variants.{Readings, Malformed}
 use Rattle.lines.specs.declared.State.{State}
-use Rattle.lines.specs.Line.{onto, words, isDigit, signed, number, with, numbers, five, parse}
-use Rattle.lines.specs.State.{start, refused, shifted, ended, negated, minus, longer, digit, stepped, stepsOf, finished}
+use Rattle.lines.specs.Line.{onto, words, isDigit, signed, number, with, allNumbers, five, parse}
+use Rattle.lines.specs.State.{start, refused, shifted, ended, negated, minus, withDigit, digit, stepped, steppedBy, finished}
 use Rattle.lines.proofs.Words.{rest, rest-digit, rest-full, rest-other, rest-minus, rest-twice, rest-late, rest-empty, rest-end}
 
 -- ════ the words: the first goes on with the bytes before it
@@ -56,7 +56,7 @@ joined xs (some ys) = some (xs ++ ys)
 
 -- the line, with the numbers of the words that have ended, that of the next, and the words behind it
 line : List ℤ → Option ℤ → List (List ℕ) → Line
-line xs x ws = five (joined xs (with x (numbers (map number ws))))
+line xs x ws = five (joined xs (with x (allNumbers (map number ws))))
 
 line-none : (xs : List ℤ) (ws : List (List ℕ)) → line xs none ws ≡ Malformed
 unfolding line joined
@@ -69,7 +69,7 @@ joined-more xs x (some ys) = ap some (sym (append-assoc xs (x ∷ []) ys))
 
 line-more : (xs : List ℤ) (x : ℤ) (w : List ℕ) (ws : List (List ℕ)) → line xs (some x) (w ∷ ws) ≡ line (xs ++ x ∷ []) (number w) ws
 unfolding line
-line-more xs x w ws = ap five (joined-more xs x (numbers (map number (w ∷ ws))))
+line-more xs x w ws = ap five (joined-more xs x (allNumbers (map number (w ∷ ws))))
 
 -- six words are too many
 six : (a b c d e f : ℤ) (xs : List ℤ) → five (some (a ∷ b ∷ c ∷ d ∷ e ∷ f ∷ xs)) ≡ Malformed
@@ -78,7 +78,7 @@ six a b c d e f xs =
 
 line-six : (a b c d x : ℤ) (w : List ℕ) (ws : List (List ℕ)) → line (a ∷ b ∷ c ∷ d ∷ []) (some x) (w ∷ ws) ≡ Malformed
 unfolding line joined
-line-six a b c d x w ws = by (number w) (numbers (map number ws)) where
+line-six a b c d x w ws = by (number w) (allNumbers (map number ws)) where
   by : (y : Option ℤ) (r : Option (List ℤ)) → five (joined (a ∷ b ∷ c ∷ d ∷ []) (with (some x) (with y r))) ≡ Malformed
   by none r = refl
   by (some y) none = refl
@@ -135,9 +135,9 @@ step-malformed s b e =
     (either (eqb b 45) (minus s) _ (either (s .negative) (refused s) _ refl (either (ltb 0 (s .digits)) (refused s) (negated s) refl e))
     (either (ltb b 48) (refused s) _ refl
     (either (ltb 57 b) (refused s) _ refl
-    (either (leb 4 (s .digits)) (refused s) _ refl (either (leb 1000 (s .value)) (refused s) (longer s (b - 48)) refl e)))))
+    (either (leb 4 (s .digits)) (refused s) _ refl (either (leb 1000 (s .value)) (refused s) (withDigit s (b - 48)) refl e)))))
 
-malformed : (s : State) (bs : List ℕ) → s .malformed ≡ true → finished (stepsOf s bs) ≡ Malformed
+malformed : (s : State) (bs : List ℕ) → s .malformed ≡ true → finished (steppedBy s bs) ≡ Malformed
 malformed s [] e = simp e
 malformed s (b ∷ bs) e = malformed (stepped s b) bs (step-malformed s b e)
 
@@ -161,7 +161,7 @@ has-digit : (k : ℕ) → eqb k 0 ≡ false → 0 < k
 has-digit zero e = absurd (eqb-false 0 0 e refl)
 has-digit (suc k) e = omega arith
 
-module _ (bs : List ℕ) (ih : (s : State) → Good s → finished (stepsOf s bs) ≡ lineFrom s (first (words bs)) (others (words bs))) (s : State) (good : Good s) where
+module _ (bs : List ℕ) (ih : (s : State) → Good s → finished (steppedBy s bs) ≡ lineFrom s (first (words bs)) (others (words bs))) (s : State) (good : Good s) where
   -- the rest of the word that has not ended
   abbrev tail : List ℕ → Option ℤ
   tail = rest (s .negative) (s .digits) (s .value)
@@ -169,12 +169,12 @@ module _ (bs : List ℕ) (ih : (s : State) → Good s → finished (stepsOf s bs
   abbrev H : List ℤ
   H = held (s .words) (s .alpha) (s .beta) (s .xi) (s .eta)
 
-  stopped : (w : List ℕ) (ws : List (List ℕ)) → tail w ≡ none → finished (stepsOf (refused s) bs) ≡ lineFrom s w ws
+  stopped : (w : List ℕ) (ws : List (List ℕ)) → tail w ≡ none → finished (steppedBy (refused s) bs) ≡ lineFrom s w ws
   stopped w ws e = malformed (refused s) bs refl ∙ sym (spoilt s w ws e)
 
   taken : (r : State) (b : ℕ) → Good r → held (r .words) (r .alpha) (r .beta) (r .xi) (r .eta) ≡ H
       → tail (b ∷ first (words bs)) ≡ rest (r .negative) (r .digits) (r .value) (first (words bs))
-      → finished (stepsOf r bs) ≡ lineFrom s (b ∷ first (words bs)) (others (words bs))
+      → finished (steppedBy r bs) ≡ lineFrom s (b ∷ first (words bs)) (others (words bs))
   unfolding lineFrom
   taken r b g e f = ih r g ∙ ap₂ (λ h y. line h y (others (words bs))) e (sym f)
 
@@ -201,7 +201,7 @@ module _ (bs : List ℕ) (ih : (s : State) → Good s → finished (stepsOf s bs
   shifted-good l = record { well = good .well; words-few = omega arith; digits-few = omega arith; value-small = omega arith }
 
   at-space : (t u : Bool) → eqb (s .digits) 0 ≡ t → leb 4 (s .words) ≡ u
-      → finished (stepsOf (cond t (refused s) (cond u (refused s) (shifted s))) bs) ≡ lineFrom s [] (words bs)
+      → finished (steppedBy (cond t (refused s) (cond u (refused s) (shifted s))) bs) ≡ lineFrom s [] (words bs)
   at-space true u e f =
       stopped [] (words bs) (ap (λ k. rest (s .negative) k (s .value) []) (eqb-true (s .digits) 0 e) ∙ rest-empty (s .negative) (s .value))
   at-space false true e f =
@@ -213,7 +213,7 @@ module _ (bs : List ℕ) (ih : (s : State) → Good s → finished (stepsOf s bs
 
   -- a minus
   at-minus : (b : ℕ) (n t : Bool) → eqb b 45 ≡ true → s .negative ≡ n → ltb 0 (s .digits) ≡ t
-      → finished (stepsOf (cond n (refused s) (cond t (refused s) (negated s))) bs) ≡ lineFrom s (b ∷ first (words bs)) (others (words bs))
+      → finished (steppedBy (cond n (refused s) (cond t (refused s) (negated s))) bs) ≡ lineFrom s (b ∷ first (words bs)) (others (words bs))
   at-minus b true t m e f =
       stopped (b ∷ first (words bs)) (others (words bs)) (ap (λ n. rest n (s .digits) (s .value) (b ∷ first (words bs))) e ∙ rest-twice (s .digits) (s .value) b (first (words bs)) m)
   at-minus b false true m e f =
@@ -228,7 +228,7 @@ module _ (bs : List ℕ) (ih : (s : State) → Good s → finished (stepsOf s bs
 
   -- a digit
   at-digit : (b : ℕ) (t u : Bool) → eqb b 45 ≡ false → 48 ≤ b → b ≤ 57 → leb 4 (s .digits) ≡ t → leb 1000 (s .value) ≡ u
-      → finished (stepsOf (cond t (refused s) (cond u (refused s) (longer s (b - 48)))) bs) ≡ lineFrom s (b ∷ first (words bs)) (others (words bs))
+      → finished (steppedBy (cond t (refused s) (cond u (refused s) (withDigit s (b - 48)))) bs) ≡ lineFrom s (b ∷ first (words bs)) (others (words bs))
   at-digit b true u m lo hi e f =
       stopped (b ∷ first (words bs)) (others (words bs)) (rest-full (s .negative) (s .digits) (s .value) b (first (words bs)) (good .value-small) m (leb-true 4 (s .digits) e))
   at-digit b false true m lo hi e f =
@@ -236,23 +236,23 @@ module _ (bs : List ℕ) (ih : (s : State) → Good s → finished (stepsOf s bs
       absurd (omega (arith, leb-true 1000 (s .value) f))
   at-digit b false false m lo hi e f =
       let l = leb-false 4 (s .digits) e in
-      taken (longer s (b - 48)) b
+      taken (withDigit s (b - 48)) b
       (record { well = good .well; words-few = good .words-few; digits-few = omega arith; value-small = value-more (s .digits) (s .value) (b - 48) (good .value-small) (omega arith) }) refl
       (rest-digit (s .negative) (s .digits) (s .value) b (first (words bs)) (good .value-small) m (ap₂ _&&_ (le-leb 48 b lo) (le-leb b 57 hi)))
 
   -- any other byte
-  at-other : (b : ℕ) → eqb b 45 ≡ false → isDigit b ≡ false → finished (stepsOf (refused s) bs) ≡ lineFrom s (b ∷ first (words bs)) (others (words bs))
+  at-other : (b : ℕ) → eqb b 45 ≡ false → isDigit b ≡ false → finished (steppedBy (refused s) bs) ≡ lineFrom s (b ∷ first (words bs)) (others (words bs))
   at-other b m d = stopped (b ∷ first (words bs)) (others (words bs)) (rest-other (s .negative) (s .digits) (s .value) b (first (words bs)) (good .value-small) m d)
 
   at-byte : (b : ℕ) (u p q : Bool) → eqb b 45 ≡ u → ltb b 48 ≡ p → ltb 57 b ≡ q
-      → finished (stepsOf (cond u (minus s) (cond p (refused s) (cond q (refused s) (digit s (b - 48))))) bs) ≡ lineFrom s (b ∷ first (words bs)) (others (words bs))
+      → finished (steppedBy (cond u (minus s) (cond p (refused s) (cond q (refused s) (digit s (b - 48))))) bs) ≡ lineFrom s (b ∷ first (words bs)) (others (words bs))
   at-byte b true p q e f g = at-minus b (s .negative) (ltb 0 (s .digits)) e refl refl
   at-byte b false true q e f g = at-other b e (ap (λ t. t && leb b 57) (lt-leb 48 b (ltb-true b 48 f)))
   at-byte b false false true e f g = at-other b e (ap₂ _&&_ (le-leb 48 b (ltb-false b 48 f)) (lt-leb b 57 (ltb-true 57 b g)))
   at-byte b false false false e f g = at-digit b (leb 4 (s .digits)) (leb 1000 (s .value)) e (ltb-false b 48 f) (ltb-false 57 b g) refl refl
 
   one-more : (b : ℕ) (t : Bool) → eqb b 32 ≡ t
-      → finished (stepsOf (cond t (ended s) (cond (eqb b 45) (minus s) (cond (ltb b 48) (refused s) (cond (ltb 57 b) (refused s) (digit s (b - 48)))))) bs)
+      → finished (steppedBy (cond t (ended s) (cond (eqb b 45) (minus s) (cond (ltb b 48) (refused s) (cond (ltb 57 b) (refused s) (digit s (b - 48)))))) bs)
       ≡ lineFrom s (first (cond t ([] ∷ words bs) (onto b (words bs)))) (others (cond t ([] ∷ words bs) (onto b (words bs))))
   unfolding first others
   one-more b true e = at-space (eqb (s .digits) 0) (leb 4 (s .words)) refl refl
@@ -279,7 +279,7 @@ module _ (s : State) (good : Good s) where
       sym (spoilt s [] [] (ap (λ k. rest (s .negative) k (s .value) []) (eqb-true (s .digits) 0 f) ∙ rest-empty (s .negative) (s .value)))
   no-more true false e f = sym (whole (eqb-true (s .words) 4 e) (has-digit (s .digits) f))
 
-from : (bs : List ℕ) (s : State) → Good s → finished (stepsOf s bs) ≡ lineFrom s (first (words bs)) (others (words bs))
+from : (bs : List ℕ) (s : State) → Good s → finished (steppedBy s bs) ≡ lineFrom s (first (words bs)) (others (words bs))
 unfolding first others
 from [] s good =
     ap (λ t. cond t Malformed (cond (not (eqb (s .words) 4)) Malformed (cond (eqb (s .digits) 0) Malformed (Readings (s .alpha) (s .beta) (s .xi) (s .eta) (signed (s .negative) (s .value)))))) (good .well)
@@ -294,9 +294,9 @@ unfolding joined
 joined-none none = refl
 joined-none (some xs) = refl
 
-pub parsed : (bs : List ℕ) → finished (stepsOf start bs) ≡ parse bs
+pub parsed : (bs : List ℕ) → finished (steppedBy start bs) ≡ parse bs
 unfolding parse lineFrom line held
 parsed bs =
     from bs start start-good
-    ∙ ap five (joined-none (numbers (map number (first (words bs) ∷ others (words bs)))))
-    ∙ ap (λ ws. five (numbers (map number ws))) (sym (has-first bs))
+    ∙ ap five (joined-none (allNumbers (map number (first (words bs) ∷ others (words bs)))))
+    ∙ ap (λ ws. five (allNumbers (map number ws))) (sym (has-first bs))

@@ -7,15 +7,15 @@ use Prim.Native.Nat.{ℕ, _+_, _<_}
 use native.Mathlib.Numerals.{add-one}
 use lib.ListN.{length, take, getD}
 use lib.Seq.{take-suc}
-use Rattle.lines.specs.State.{stepped, stepsOf}
+use Rattle.lines.specs.State.{stepped, steppedBy}
 use Rattle.lines.specs.declared.State.{State}
 
-pub steps-append : (s : State) (xs ys : List ℕ) → stepsOf s (xs ++ ys) ≡ stepsOf (stepsOf s xs) ys
+pub steps-append : (s : State) (xs ys : List ℕ) → steppedBy s (xs ++ ys) ≡ steppedBy (steppedBy s xs) ys
 steps-append s [] ys = refl
 steps-append s (x ∷ xs) ys = steps-append (stepped s x) xs ys
 
-pub steps-more : (s : State) (xs : List ℕ) (i : ℕ) → i < length xs → stepped (stepsOf s (take i xs)) (getD xs i 0) ≡ stepsOf s (take (i + 1) xs)
+pub steps-more : (s : State) (xs : List ℕ) (i : ℕ) → i < length xs → stepped (steppedBy s (take i xs)) (getD xs i 0) ≡ steppedBy s (take (i + 1) xs)
 steps-more s xs i h =
     sym (steps-append s (take i xs) (getD xs i 0 ∷ []))
-    ∙ ap (stepsOf s) (sym (take-suc xs i 0 h))
-    ∙ ap (λ (j : ℕ). stepsOf s (take j xs)) (sym (add-one i))
+    ∙ ap (steppedBy s) (sym (take-suc xs i 0 h))
+    ∙ ap (λ (j : ℕ). steppedBy s (take j xs)) (sym (add-one i))

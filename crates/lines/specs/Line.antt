@@ -31,9 +31,9 @@ allDigits [] = true
 allDigits (b ∷ bs) = isDigit b && allDigits bs
 
 -- the value of digits that follow those of v
-abbrev pub decimal : ℕ → List ℕ → ℕ
-decimal v [] = v
-decimal v (b ∷ bs) = decimal (v * 10 + (b - 48)) bs
+abbrev pub digitsValue : ℕ → List ℕ → ℕ
+digitsValue v [] = v
+digitsValue v (b ∷ bs) = digitsValue (v * 10 + (b - 48)) bs
 
 abbrev pub signed : Bool → ℕ → ℤ
 signed negative n = cond negative (negℤ (pos n)) (pos n)
@@ -41,7 +41,7 @@ signed negative n = cond negative (negℤ (pos n)) (pos n)
 -- one to four digits and nothing else, behind the minus where there is one
 abbrev pub unsigned : Bool → List ℕ → Option ℤ
 unsigned negative bs =
-    cond (allDigits bs && (leb 1 (length bs) && leb (length bs) 4)) (some (signed negative (decimal 0 bs))) none
+    cond (allDigits bs && (leb 1 (length bs) && leb (length bs) 4)) (some (signed negative (digitsValue 0 bs))) none
 
 abbrev pub number : List ℕ → Option ℤ
 number [] = none
@@ -54,9 +54,9 @@ with (some x) none = none
 with (some x) (some xs) = some (x ∷ xs)
 
 -- all the numbers, where every word is one
-abbrev pub numbers : List (Option ℤ) → Option (List ℤ)
-numbers [] = some []
-numbers (x ∷ xs) = with x (numbers xs)
+abbrev pub allNumbers : List (Option ℤ) → Option (List ℤ)
+allNumbers [] = some []
+allNumbers (x ∷ xs) = with x (allNumbers xs)
 
 abbrev pub five : Option (List ℤ) → Line
 five none = Malformed
@@ -64,4 +64,4 @@ five (some xs) =
     cond (eqb (length xs) 5) (Readings (getD xs 0 (pos 0)) (getD xs 1 (pos 0)) (getD xs 2 (pos 0)) (getD xs 3 (pos 0)) (getD xs 4 (pos 0))) Malformed
 
 unfoldable pub parse : List ℕ → Line
-parse bytes = five (numbers (map number (words bytes)))
+parse bytes = five (allNumbers (map number (words bytes)))

@@ -32,21 +32,21 @@ negated s =
 abbrev pub minus : State → State
 minus s = cond (s .negative) (refused s) (cond (ltb 0 (s .digits)) (refused s) (negated s))
 
-abbrev pub longer : State → ℕ → State
-longer s d =
+abbrev pub withDigit : State → ℕ → State
+withDigit s d =
     record { malformed = s .malformed; words = s .words; alpha = s .alpha; beta = s .beta; xi = s .xi; eta = s .eta; negative = s .negative; digits = s .digits + 1; value = s .value * 10 + d }
 
 abbrev pub digit : State → ℕ → State
-digit s d = cond (leb 4 (s .digits)) (refused s) (cond (leb 1000 (s .value)) (refused s) (longer s d))
+digit s d = cond (leb 4 (s .digits)) (refused s) (cond (leb 1000 (s .value)) (refused s) (withDigit s d))
 
 abbrev pub stepped : State → ℕ → State
 stepped s b =
     cond (eqb b 32) (ended s)
     (cond (eqb b 45) (minus s) (cond (ltb b 48) (refused s) (cond (ltb 57 b) (refused s) (digit s (b - 48)))))
 
-abbrev pub stepsOf : State → List ℕ → State
-stepsOf s [] = s
-stepsOf s (b ∷ bs) = stepsOf (stepped s b) bs
+abbrev pub steppedBy : State → List ℕ → State
+steppedBy s [] = s
+steppedBy s (b ∷ bs) = steppedBy (stepped s b) bs
 
 abbrev pub finished : State → Line
 finished s =

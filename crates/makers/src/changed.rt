@@ -4,10 +4,10 @@ use super::plain::with_place;
 use layout::LIMITS;
 use layout::TABLE;
 use layout::VARIABLES;
-use words::below;
-use words::minus;
-use words::plus;
-use words::take;
+use modular::below;
+use modular::minus;
+use modular::plus;
+use modular::take;
 
 // The table moved a little, which the published one always takes.
 pub fn nudged(draws: &mut u64, t: &[i64; TABLE]) -> [i64; TABLE] {

@@ -1,8 +1,8 @@
 // The largest move that a table takes.
 use layout::TABLE;
 use layout::refusals::DONE;
-use words::minus;
-use words::signed;
+use modular::minus;
+use modular::signed;
 
 // The number of the given size and sign.
 pub fn with_sign(is_negative: bool, size: u64) -> i64 {

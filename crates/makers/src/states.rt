@@ -4,10 +4,10 @@ use super::plain::lowest;
 use super::plain::with_reading;
 use layout::TABLE;
 use layout::VARIABLES;
-use words::below;
-use words::minus;
-use words::plus;
-use words::take;
+use modular::below;
+use modular::minus;
+use modular::plus;
+use modular::take;
 
 // A reading within its limits, often on one of them or at the cut.
 fn inside_reading(draws: &mut u64, t: &[i64; TABLE], v: usize) -> i64 {

@@ -1,10 +1,10 @@
 // Floats and their bit patterns.
 ghost use Prim.Native.Nat.{_<_};
 use layout::VARIABLES;
-use words::plus;
-use words::signed;
-use words::times;
-use words::word;
+use modular::plus;
+use modular::signed;
+use modular::times;
+use modular::word;
 
 pub const SIGN: u64 = 0x8000_0000_0000_0000;
 

@@ -12,7 +12,7 @@ use book::lines::start;
 use door::Answer;
 use layout::BLOCKS;
 use layout::VARIABLES;
-use words::checksum;
+use modular::checksum;
 
 // A space and sixteen hexadecimal digits.
 fn put_pattern(pattern: u64, line: &mut [u8], at: usize) -> usize

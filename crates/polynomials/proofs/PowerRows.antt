@@ -19,7 +19,7 @@ use Rattle.whole.proofs.Ring.{pow-zero, pow-suc}
 use Rattle.whole.proofs.Order.{le-out}
 use Rattle.polynomials.specs.Sum.{listed}
 use Rattle.polynomials.specs.Order.{powers, below, size}
-use Rattle.polynomials.specs.Limits.{farthest, highest}
+use Rattle.polynomials.specs.Limits.{farthest, highestDegree}
 use Rattle.polynomials.specs.declared.Powers.{Powers}
 use Rattle.polynomials.proofs.Places.{degree-powers}
 use Rattle.polynomials.proofs.Listed.{getD-listed}
@@ -29,7 +29,7 @@ pub row-power : (x : ℤ) (row : List ℤ) (p : ℕ) {q : ℕ} → SFits w64 x �
 row-power x row p f e given h r =
     toZ-ofZ (sfits-of {z = getD row p (pos 0)} given) ∙ ap (λ l. getD l p (pos 0)) e ∙ getD-listed 5 _ p (pos 0) h ∙ ap (λ z. pow z p) (toZ-ofZ f) ∙ ap (pow x) r
 
-pub few-powers : (w : Powers) (k n : ℕ) → n ≤ size highest → k < n → w ≡ powers k → w .first + w .second < 5
+pub few-powers : (w : Powers) (k n : ℕ) → n ≤ size highestDegree → k < n → w ≡ powers k → w .first + w .second < 5
 unfolding below
 few-powers w k n few h e = rw e (degree-powers 5 k (N.lt-of-lt-of-le h few))
 

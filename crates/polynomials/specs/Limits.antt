@@ -14,8 +14,8 @@ abbrev pub farthest : ℕ
 farthest = 6000
 
 -- the highest total degree that the binomial numbers of the code serve
-abbrev pub highest : ℕ
-highest = 4
+abbrev pub highestDegree : ℕ
+highestDegree = 4
 
 -- the sum while it is within the cap
 abbrev pub against : ℕ → Weighed

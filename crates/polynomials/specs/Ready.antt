@@ -5,18 +5,18 @@ use lib.IntN.{ℤ, pos, natAbs}
 use lib.ListN.{length}
 use Rattle.polynomials.specs.Order.{size}
 use Rattle.polynomials.specs.Group.{own, weight}
-use Rattle.polynomials.specs.Limits.{cap, farthest, highest}
+use Rattle.polynomials.specs.Limits.{cap, farthest, highestDegree}
 use Rattle.polynomials.specs.declared.Variable.{Variable}
 
 -- to read a group at x and y
 pub record Readable (l : List ℤ) (x y : ℤ) : Type 0 where
-  pub few : length l ≤ size highest
+  pub few : length l ≤ size highestDegree
   pub near-x : natAbs x ≤ farthest
   pub near-y : natAbs y ≤ farthest
   pub light : weight l (max 1 (natAbs x)) (max 1 (natAbs y)) ≤ cap
 
 -- to move it by s: its weight at reaches of 1, the moved variable's longer by |s|
 pub record Movable (w : Variable) (s : ℤ) (l : List ℤ) : Type 0 where
-  pub few : length l ≤ size highest
+  pub few : length l ≤ size highestDegree
   pub near : natAbs s ≤ farthest
   pub light : weight l (own w (1 + natAbs s) 1) (own w 1 (1 + natAbs s)) ≤ cap

@@ -8,7 +8,7 @@ ghost use Rattle.polynomials.specs.Sum.{listed};
 ghost use Rattle.polynomials.specs.Order.{next, place};
 ghost use Rattle.polynomials.specs.Binomial.{choose, binomials};
 ghost use Rattle.polynomials.specs.Group.{own, value, movedNumber, moved};
-ghost use Rattle.polynomials.specs.Limits.{cap, farthest, highest, against};
+ghost use Rattle.polynomials.specs.Limits.{cap, farthest, highestDegree, against};
 ghost use Rattle.polynomials.specs.Ready.{Readable, Movable};
 
 // No weight may pass it: 9 x 10^18.
@@ -110,7 +110,7 @@ pub fn powers_of(x: i64) -> [i64; 5]
 
 // k over p.
 fn binomial(triangle: &[i64], k: usize, p: usize) -> i64
-    requires { ⌜ (now triangle ≡ binomials) × ((k ≤ highest) × (p ≤ k)) ⌝ }
+    requires { ⌜ (now triangle ≡ binomials) × ((k ≤ highestDegree) × (p ≤ k)) ⌝ }
     ensures { λ r. ⌜ r ≡ pos (choose k p) ⌝ }
 {
     triangle[k * (k + 1) / 2 + p]

@@ -43,7 +43,7 @@ use Rattle.cumulus.proofs.Scaling.{scaling}
 use Rattle.cumulus.proofs.Checked.{all-checked}
 use Rattle.rounding.specs.Value.{numerator, denominator}
 use Rattle.rounding.specs.Nearest.{IsNearest}
-use Rattle.rounding.specs.Answer.{answerOf}
+use Rattle.rounding.specs.Answer.{floatOf}
 use Rattle.rounding.proofs.Nearest.{reading-unique}
 use Rattle.rounding.proofs.Answers.{zero-positive}
 use Rattle.door.specs.Steps.{notFinite, positiveZero}
@@ -208,7 +208,7 @@ module _ (t : List ℤ) (x : ℕ → Float) where
 
   -- and each of the six, made a float and divided once.
   pub door-values-of-rounded : ((i : ℕ) → i < 5 → finite (x i) ≡ true) → (b : ℕ) → b < 6
-      → doorValue cumulus t x b ≡ answerOf (getD (readOutput cumulus t (roundedAll x) (listed 6 (λ b. pos 0))) b (pos 0))
+      → doorValue cumulus t x b ≡ floatOf (getD (readOutput cumulus t (roundedAll x) (listed 6 (λ b. pos 0))) b (pos 0))
   door-values-of-rounded = value-read t x
 
   -- The six are positive zero on a refusal.
@@ -223,5 +223,5 @@ module _ (t : List ℤ) (x : ℕ → Float) where
   door-hands-back-nothing-else = reading-elsewhere t x
 
 -- A zero gives positive zero.
-pub door-zero-is-positive : answerOf (pos 0) ≡ positiveZero
+pub door-zero-is-positive : floatOf (pos 0) ≡ positiveZero
 door-zero-is-positive = zero-positive

@@ -9,11 +9,11 @@ use lib.Signed.{_≤ℤ_}
 use Rattle.polynomials.specs.Numbers.{nats}
 use Rattle.polynomials.specs.Sum.{sum}
 use Rattle.polynomials.specs.Order.{size}
-use Rattle.polynomials.specs.Limits.{cap, highest}
+use Rattle.polynomials.specs.Limits.{cap, highestDegree}
 use Rattle.polynomials.specs.declared.Weighed.{Weighed}
 use Rattle.polynomials.specs.declared.Weighed.the-variants.{Within, Passed}
 use Rattle.layout.specs.Shape.{tableLength, cumulus}
-use Rattle.layout.specs.Numbers.{limits, block, side, xiStart, zetaStart}
+use Rattle.layout.specs.Numbers.{limitsSize, blockSize, sideSize, xiStart, zetaStart}
 use Rattle.weights.specs.Terms.{sizeAt, groupWeight}
 
 -- none of the first n blocks has a magnitude larger than m at the place k
@@ -35,7 +35,7 @@ heaviest t start n x y Passed = Unit {0}
 
 -- no block's two side groups weigh more together
 abbrev pub heaviestSides : List ℤ → List ℤ → Weighed → Type 0
-heaviestSides t l (Within m) = (m ≤ cap) × ((b : ℕ) → b < cumulus .blocks → groupWeight t b xiStart side (reach l 1) (reach l 2) + groupWeight t b zetaStart side (reach l 1) (reach l 4) ≤ m)
+heaviestSides t l (Within m) = (m ≤ cap) × ((b : ℕ) → b < cumulus .blocks → groupWeight t b xiStart sideSize (reach l 1) (reach l 2) + groupWeight t b zetaStart sideSize (reach l 1) (reach l 4) ≤ m)
 heaviestSides t l Passed = Unit {0}
 
 -- what is so where the answer is yes; where it is no, nothing is said
@@ -52,12 +52,12 @@ pub record SameSides (l h : List ℤ) : Type 0 where
 -- the places of a group of n numbers, and the two reaches
 pub record Placed (t : List ℤ) (start n : ℕ) (r s : ℤ) : Type 0 where
   pub whole : length t ≡ tableLength cumulus
-  pub inside : start + n ≤ block
+  pub inside : start + n ≤ blockSize
   pub one-r : pos 1 ≤ℤ r
   pub one-s : pos 1 ≤ℤ s
 
 -- what weighing a group of all blocks asks besides: its degree, and room for its numbers
 pub record Weighable (t : List ℤ) (start degree : ℕ) (r s : ℤ) (room : List ℕ) : Type 0 where
   pub placed : Placed t start (size degree) r s
-  pub few : degree ≤ highest
+  pub few : degree ≤ highestDegree
   pub sized : length room ≡ size degree

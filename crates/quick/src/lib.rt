@@ -8,7 +8,7 @@ ghost use lib.IntN.{natAbs};
 ghost use lib.ListN.{length};
 ghost use Rattle.polynomials.specs.Order.{size};
 ghost use Rattle.layout.specs.Shape.{cumulus, tableLength};
-ghost use Rattle.layout.specs.Numbers.{block, pitch, side};
+ghost use Rattle.layout.specs.Numbers.{blockSize, pitchSize, sideSize};
 ghost use Rattle.layout.specs.Sound.{withinCap};
 ghost use Rattle.weights.specs.Reaches.{reachesOf, Reaching, Checkable};
 ghost use Rattle.quick.specs.Joined.{Joined, AllJoined, heaviest, heaviestSides, surely, SameSides, Placed, Weighable};
@@ -32,7 +32,7 @@ const SIDE_DEGREE: usize = 4;
 
 // The bits of the magnitudes at a place of all blocks.
 fn join(table: &[i64], place: usize) -> u64
-    requires { ⌜ (length (now table) ≡ tableLength cumulus) × (place < block) ⌝ }
+    requires { ⌜ (length (now table) ≡ tableLength cumulus) × (place < blockSize) ⌝ }
     ensures { λ r. ⌜ Joined (now (table .entry)) (cumulus .blocks) place r ⌝ }
 {
     let mut bits: u64 = 0;
@@ -47,7 +47,7 @@ fn join(table: &[i64], place: usize) -> u64
 
 // The same for each place from `start` on.
 fn join_all(table: &[i64], start: usize, group: &mut [u64])
-    requires { ⌜ (length (now table) ≡ tableLength cumulus) × (start + length (now group) ≤ block) ⌝ }
+    requires { ⌜ (length (now table) ≡ tableLength cumulus) × (start + length (now group) ≤ blockSize) ⌝ }
     ensures { λ r. ⌜ AllJoined (now (table .entry)) start (length (now (group .entry))) (now (group .exit)) ⌝ }
 {
     let mut k: usize = 0;
@@ -69,8 +69,8 @@ fn weigh(table: &[i64], start: usize, degree: usize, r: i64, t: i64, group: &mut
 
 // The same for a group in alpha and eta.
 fn weigh_pitch(table: &[i64], start: usize, r: i64, t: i64) -> Weighed
-    requires { ⌜ Placed (now table) start pitch r t ⌝ }
-    ensures { λ w. ⌜ heaviest (now (table .entry)) start pitch (natAbs r) (natAbs t) w ⌝ }
+    requires { ⌜ Placed (now table) start pitchSize r t ⌝ }
+    ensures { λ w. ⌜ heaviest (now (table .entry)) start pitchSize (natAbs r) (natAbs t) w ⌝ }
 {
     let mut group = [0u64; PITCH];
     weigh(table, start, PITCH_DEGREE, r, t, &mut group)
@@ -78,8 +78,8 @@ fn weigh_pitch(table: &[i64], start: usize, r: i64, t: i64) -> Weighed
 
 // The same for a side group.
 fn weigh_side(table: &[i64], start: usize, r: i64, t: i64) -> Weighed
-    requires { ⌜ Placed (now table) start side r t ⌝ }
-    ensures { λ w. ⌜ heaviest (now (table .entry)) start side (natAbs r) (natAbs t) w ⌝ }
+    requires { ⌜ Placed (now table) start sideSize r t ⌝ }
+    ensures { λ w. ⌜ heaviest (now (table .entry)) start sideSize (natAbs r) (natAbs t) w ⌝ }
 {
     let mut group = [0u64; SIDE];
     weigh(table, start, SIDE_DEGREE, r, t, &mut group)

@@ -3,8 +3,8 @@ use mathlib.Core.Path.{_≡_, refl}
 use mathlib.Core.Bool.{false}
 use lib.IntN.{pos}
 use lib.Ieee.{fin, div, ofInt}
-use Rattle.rounding.specs.Answer.{answerOf}
+use Rattle.rounding.specs.Answer.{floatOf}
 
-pub zero-positive : answerOf (pos 0) ≡ fin false 0 (pos 0)
-unfolding answerOf div ofInt
+pub zero-positive : floatOf (pos 0) ≡ fin false 0 (pos 0)
+unfolding floatOf div ofInt
 zero-positive = refl

@@ -4,5 +4,5 @@ use lib.IntN.{ℤ, pos}
 use lib.Ieee.{Float, binary64, div, ofInt}
 
 -- the nearest f64 to z, divided once by 10¹⁷: each of the two steps rounds to the nearest f64, a half to the even one
-unfoldable pub answerOf : ℤ → Float
-answerOf z = div binary64 (ofInt binary64 z) (ofInt binary64 (pos (10 ^ 17)))
+unfoldable pub floatOf : ℤ → Float
+floatOf z = div binary64 (ofInt binary64 z) (ofInt binary64 (pos (10 ^ 17)))

@@ -10,7 +10,7 @@ ghost use lib.Ieee.Scale.{finite};
 ghost use Rattle.rounding.specs.Nearest.{tie, rounded};
 ghost use Rattle.rounding.specs.Reading.{wholeOf, stepOf};
 ghost use Rattle.rounding.specs.Ready.{Near};
-ghost use Rattle.rounding.specs.Answer.{answerOf};
+ghost use Rattle.rounding.specs.Answer.{floatOf};
 
 // What one float reading is, within a lowest and a highest whole number.
 pub enum Step {
@@ -97,7 +97,7 @@ pub fn step_of(x: f64, lowest: i64, highest: i64) -> Step
 
 // A whole number of 10^-17 as the nearest f64 whole number (half to even), divided once by 10^17. Zero gives positive zero.
 pub fn answer(z: i64) -> f64
-    ensures { λ r. ⌜ r ≡ answerOf z ⌝ }
+    ensures { λ r. ⌜ r ≡ floatOf z ⌝ }
 {
     std::num::nearest_i64_to_f64(z) / 1e17
 }

@@ -10,9 +10,9 @@ use layout::XI_START;
 use layout::ZETA_START;
 use makers::moves::with_sign;
 use makers::plain::bare;
+use modular::below;
 use polynomials::CAP;
 use std::num::wrapping_sub_u64;
-use words::below;
 
 // A number of the given size, of either sign.
 pub fn of_sign(draws: &mut u64, size: u64) -> i64 {
@@ -49,7 +49,7 @@ pub fn filling_place(place: usize) -> usize
 // A size near the largest: in the first of three ways a part of it, in the second one of its upper half, and in the last itself.
 fn size_near(draws: &mut u64, full: u64, way: usize) -> u64 {
     let part = below(draws, 8) as u64;
-    let less = words::next(draws) % (full / 2 + 1);
+    let less = modular::next(draws) % (full / 2 + 1);
     match way {
         0 => full / (part + 1),
         1 => wrapping_sub_u64(full, less),

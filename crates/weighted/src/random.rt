@@ -5,11 +5,11 @@ use super::terms::term_at;
 use layout::LIMITS;
 use layout::TABLE;
 use makers::plain::bare;
-use words::below;
-use words::minus;
-use words::plus;
-use words::signed;
-use words::take;
+use modular::below;
+use modular::minus;
+use modular::plus;
+use modular::signed;
+use modular::take;
 
 // How far from 0 a table's limits lie at most.
 fn limit_size(draws: &mut u64) -> i64 {

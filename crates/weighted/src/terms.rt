@@ -8,8 +8,8 @@ use layout::XI_START;
 use layout::ZETA_START;
 use makers::plain::highest;
 use makers::plain::lowest;
-use words::plus;
-use words::times;
+use modular::plus;
+use modular::times;
 
 // A term's two reaches and their powers.
 pub struct Term {

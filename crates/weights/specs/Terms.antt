@@ -9,8 +9,8 @@ use lib.Signed.{_≤ℤ_}
 use Rattle.polynomials.specs.Numbers.{nats}
 use Rattle.polynomials.specs.Sum.{sum}
 use Rattle.polynomials.specs.Order.{powers, size}
-use Rattle.polynomials.specs.Limits.{farthest, highest}
-use Rattle.layout.specs.Numbers.{limits, block, pitch, side}
+use Rattle.polynomials.specs.Limits.{farthest, highestDegree}
+use Rattle.layout.specs.Numbers.{limitsSize, blockSize, pitchSize, sideSize}
 
 -- in a group, the powers of two reaches at a place
 abbrev pub product : ℕ → ℕ → ℕ → ℕ
@@ -18,20 +18,20 @@ product r s k = r ^ powers k .first * s ^ powers k .second
 
 -- how many terms there are
 abbrev pub terms : ℕ
-terms = pitch + side + side
+terms = pitchSize + sideSize + sideSize
 
 -- the powers that term k counts with, at given reaches: of alpha and eta, of beta and xi, of beta and zeta
 unfoldable pub factorAt : (ℕ → ℕ) → ℕ → ℕ
 factorAt r k =
-    cond (ltb k pitch) (product (r 0) (r 3) k) (cond (ltb k (pitch + side)) (product (r 1) (r 2) (k - pitch)) (product (r 1) (r 4) (k - (pitch + side))))
+    cond (ltb k pitchSize) (product (r 0) (r 3) k) (cond (ltb k (pitchSize + sideSize)) (product (r 1) (r 2) (k - pitchSize)) (product (r 1) (r 4) (k - (pitchSize + sideSize))))
 
 -- where the number of term k stands in a table, for the block b and the piece n: a block has the low group, the high group and the side groups
 unfoldable pub termPlace : ℕ → ℕ → ℕ → ℕ
-termPlace b n k = limits + block * b + cond (ltb k pitch) (pitch * n + k) (pitch + k)
+termPlace b n k = limitsSize + blockSize * b + cond (ltb k pitchSize) (pitchSize * n + k) (pitchSize + k)
 
 -- the magnitude at a place of block b
 abbrev pub sizeAt : List ℤ → ℕ → ℕ → ℕ
-sizeAt t b k = natAbs (getD t (limits + block * b + k) (pos 0))
+sizeAt t b k = natAbs (getD t (limitsSize + blockSize * b + k) (pos 0))
 
 -- the weight of n numbers from the place `start` of block b on, as a group
 abbrev pub groupWeight : List ℤ → ℕ → ℕ → ℕ → ℕ → ℕ → ℕ
@@ -39,7 +39,7 @@ groupWeight t b start n x y = sum nats n (λ k. sizeAt t b (start + k) * product
 
 -- what the factors of a group ask: places for few enough of them, and the two reaches
 pub record Fillable (part : List ℕ) (r s : ℤ) : Type 0 where
-  pub few : length part ≤ size highest
+  pub few : length part ≤ size highestDegree
   pub one-r : pos 1 ≤ℤ r
   pub one-s : pos 1 ≤ℤ s
   pub near-r : natAbs r ≤ farthest

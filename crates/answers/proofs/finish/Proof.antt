@@ -10,7 +10,7 @@ use lib.ListN.{length}
 use Rattle.lines.specs.State.{finished}
 use Rattle.printing.specs.Spell.{written}
 use Rattle.printing.proofs.Writing.{written-sets}
-use Rattle.answers.specs.Answers.{answerOf}
+use Rattle.answers.specs.Answers.{lineAnswer}
 use Rattle.answers.specs.Reading.{lastAnswer}
 use Rattle.answers.proofs.finish.Statement.{statement}
 use Rattle.answers.proofs.finish.Tie as tie
@@ -32,15 +32,15 @@ returns c =
     let a = c .before .before .before .before .before .before .before .before .before .args in
     let line = c .before .before .put-line in
     let done = c .before .before .before .before .finish in
-    let whole : answerOf (a .table .now) (done .result) ≡ lastAnswer (a .table .now) (a .reading) =
-    ap (answerOf (a .table .now)) (done .ensures) ∙ ap (λ u. cond u (answerOf (a .table .now) (finished (a .reading .line))) []) (sym (c .before .before .before .before .before .before .if1 .taken)) in
+    let whole : lineAnswer (a .table .now) (done .result) ≡ lastAnswer (a .table .now) (a .reading) =
+    ap (lineAnswer (a .table .now)) (done .ensures) ∙ ap (λ u. cond u (lineAnswer (a .table .now) (finished (a .reading .line))) []) (sym (c .before .before .before .before .before .before .if1 .taken)) in
     (line .ensures .0 ∙ ap (λ bytes. a .at + length bytes) whole, (line .ensures .1 .0 ∙ ap (written (a .out .now) (a .at)) whole, line .ensures .1 .1))
 
 returns-2 : tie.Need-returns-2
 returns-2 c =
     let start = c .before .before .before in
     let a = start .args in
-    let none : lastAnswer (a .table .now) (a .reading) ≡ [] = ap (λ u. cond u (answerOf (a .table .now) (finished (a .reading .line))) []) (c .if1 .left) in
+    let none : lastAnswer (a .table .now) (a .reading) ≡ [] = ap (λ u. cond u (lineAnswer (a .table .now) (finished (a .reading .line))) []) (c .if1 .left) in
     (omega (arith, ap length none), (written-sets (a .out .now) (a .at) [] (omega (arith, start .pre)) ∙ ap (written (a .out .now) (a .at)) (sym none), omega arith))
 
 pub finish-spec : {M : Type 1} → statement M

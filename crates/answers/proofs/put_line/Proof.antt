@@ -11,7 +11,7 @@ use mir.Val.{toZ, ofZ}
 use Rattle.layout.specs.Shape.{cumulus}
 use Rattle.layout.specs.Reading.{readings, readNumber, readOutput}
 use Rattle.printing.specs.Spell.{written}
-use Rattle.answers.specs.Answers.{numbered, zeros, answerOf}
+use Rattle.answers.specs.Answers.{numbered, zeros, lineAnswer}
 use Rattle.answers.proofs.put_line.Statement.{statement}
 use Rattle.answers.proofs.put_line.Tie as tie
 
@@ -40,20 +40,20 @@ same-length : tie.Need-same-length
 same-length c = search needs
 
 returns : tie.Need-returns
-unfolding answerOf
+unfolding lineAnswer
 returns c =
     let a = c .before .before .before .before .before .before .before .args in
     let answer = c .before .before .put-answer in
     let malformed = c .before .before .before .before .enum-told .given .1 in (
-      answer .ensures .0 ∙ ap (λ l. a .at + length (answerOf (a .table .now) l)) (sym malformed),
-      (answer .ensures .1 .0 ∙ ap (λ l. written (a .out .now) (a .at) (answerOf (a .table .now) l)) (sym malformed), answer .ensures .1 .1),
+      answer .ensures .0 ∙ ap (λ l. a .at + length (lineAnswer (a .table .now) l)) (sym malformed),
+      (answer .ensures .1 .0 ∙ ap (λ l. written (a .out .now) (a .at) (lineAnswer (a .table .now) l)) (sym malformed), answer .ensures .1 .1),
     )
 
 same-length-2 : tie.Need-same-length-2
 same-length-2 c = search needs
 
 returns-2 : tie.Need-returns-2
-unfolding answerOf
+unfolding lineAnswer
 returns-2 c =
     let a = c .before .before .before .before .before .before .before .before .before .before .before .args in
     let answer = c .before .before .put-answer2 in
@@ -68,7 +68,7 @@ returns-2 c =
     let same = five alpha beta xi eta zeta in
     let number = read .ensures .0 ∙ ap (λ x. readNumber cumulus (a .table .now) (readings x) zeros) same in
     let values = read .ensures .1 ∙ ap (λ x. readOutput cumulus (a .table .now) (readings x) zeros) same in
-    let whole = ap₂ numbered number values ∙ ap (answerOf (a .table .now)) (sym (line .1)) in (
+    let whole = ap₂ numbered number values ∙ ap (lineAnswer (a .table .now)) (sym (line .1)) in (
       answer .ensures .0 ∙ ap (λ bytes. a .at + length bytes) whole,
       (answer .ensures .1 .0 ∙ ap (written (a .out .now) (a .at)) whole, answer .ensures .1 .1),
     )

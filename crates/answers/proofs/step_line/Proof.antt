@@ -5,7 +5,7 @@ use Prim.Native.Nat.{ℕ, _-_, _≤_, _<_}
 use native.Mathlib.Omega.{arith}
 use borrow.Author.Needs.{needs}
 use lib.ListN.{length, getD}
-use Rattle.lines.specs.State.{stepped, stepsOf}
+use Rattle.lines.specs.State.{stepped, steppedBy}
 use Rattle.lines.specs.declared.State.{State}
 use Rattle.lines.proofs.Steps.{steps-append}
 use Rattle.answers.specs.Reading.{part, Plain}
@@ -15,7 +15,7 @@ use Rattle.answers.proofs.step_line.Tie as tie
 
 abbrev Inv-loop : tie.InvT-loop
 Inv-loop input from state₀ end₀ state end =
-    (from ≤ end) × (end ≤ length input) × (state ≡ stepsOf state₀ (part input from end)) × Plain (part input from end)
+    (from ≤ end) × (end ≤ length input) × (state ≡ steppedBy state₀ (part input from end)) × Plain (part input from end)
 
 abbrev μ-loop : tie.MeasureT-loop
 μ-loop input from state₀ end₀ state end = length input - end
@@ -23,7 +23,7 @@ abbrev μ-loop : tie.MeasureT-loop
 loop-holds : tie.Need-loop-holds Inv-loop μ-loop
 loop-holds c =
     let none = sym (part-none (c .before .args .input .now) (c .before .args .from)) in
-    (omega arith, c .before .pre, ap (stepsOf (c .before .args .line)) none, subst Plain none tt)
+    (omega arith, c .before .pre, ap (steppedBy (c .before .args .line)) none, subst Plain none tt)
 
 shared-slice-read-byte : tie.Need-shared-slice-read-byte Inv-loop μ-loop
 shared-slice-read-byte c = search needs
@@ -51,7 +51,7 @@ loop-again c =
     let more = part-more (a .input .now) (a .from) (l .loop .end) (l .loop .inv .0) (c .before .before .before .loop-test .taken) in (
       omega (arith, l .loop .inv .0),
       omega (arith, c .before .before .before .loop-test .taken),
-      c .step .ensures ∙ ap (λ (s : State). stepped s byte) (l .loop .inv .2) ∙ sym (steps-append (a .line) so-far (byte ∷ [])) ∙ ap (stepsOf (a .line)) (sym more),
+      c .step .ensures ∙ ap (λ (s : State). stepped s byte) (l .loop .inv .2) ∙ sym (steps-append (a .line) so-far (byte ∷ [])) ∙ ap (steppedBy (a .line)) (sym more),
       subst Plain (sym more) (plain-more so-far byte (l .loop .inv .3) (c .before .if1 .left)),
     )
 

@@ -2,7 +2,7 @@
 use mathlib.Core.Path.{_∙_, ap}
 use borrow.Author.Needs.{sfits-of}
 use mir.Facts.{toZ-ofZ}
-use Rattle.rounding.specs.Answer.{answerOf}
+use Rattle.rounding.specs.Answer.{floatOf}
 use Rattle.door.proofs.float_at.Statement.{statement}
 use Rattle.door.proofs.float_at.Tie as tie
 
@@ -15,7 +15,7 @@ answer-requires c κs = tt
 returns : tie.Need-returns
 returns c =
     let a = c .before in
-    c .answer .ensures ∙ ap answerOf (toZ-ofZ (sfits-of {z = a .coefficient-at .result} (a .coefficient-at .ok)) ∙ a .coefficient-at .ensures)
+    c .answer .ensures ∙ ap floatOf (toZ-ofZ (sfits-of {z = a .coefficient-at .result} (a .coefficient-at .ok)) ∙ a .coefficient-at .ensures)
 
 pub float-at-spec : {M : Type 1} → statement M
 float-at-spec = tie.close (tie.spec coefficient-at-requires answer-requires returns)

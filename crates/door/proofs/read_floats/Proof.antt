@@ -25,7 +25,7 @@ use Rattle.blocks.specs.Ready.{Valued}
 use Rattle.tables.proofs.Taken.{cut-taken, range-taken}
 use Rattle.tables.proofs.Steps.{whole-table, not-whole, first-apart, sound-facts, valued, positive}
 use Rattle.rounding.specs.Reading.{stepOf}
-use Rattle.rounding.specs.Answer.{answerOf}
+use Rattle.rounding.specs.Answer.{floatOf}
 use Rattle.rounding.specs.declared.Step.{Step}
 use Rattle.rounding.specs.declared.Step.the-variants.{Whole}
 use Rattle.door.specs.Steps.{positiveZero, numberOf, wholeIn, isNotFinite, isOutside, stepsOf}
@@ -143,13 +143,13 @@ module _ (c : tie.After-in-low-piece) where
   all-valued n h e = valued (t (d all)) (all .wholes-in .result) (listed 6 (λ b. pos 0)) n h e (readable all)
 
   answers : (n : ℕ) → pieceAt (t (d all)) (w all) ≡ piece n → (r : Answer)
-      → r ≡ answerWith 0 positiveZero (λ b. answerOf (total (coefficient cumulus (t (d all)) b (piece n)) (w all)))
+      → r ≡ answerWith 0 positiveZero (λ b. floatOf (total (coefficient cumulus (t (d all)) b (piece n)) (w all)))
       → r ≡ doorAnswer (t (d all)) (x (d all))
   answers n e r h =
       let same : piece n ≡ pieceAt (t (d all)) (roundedAll (x (d all))) = sym e ∙ ap (λ z. cond (leZ z (cut (t (d all)))) low high) (state-is all 0 (omega arith)) in
       h
       ∙ ap (answerWith 0 positiveZero)
-      (fun-ext (λ b. ap answerOf (total-agreed (w all) (roundedAll (x (d all))) (state-is all) (t (d all)) b (piece n) ∙ ap (λ p. total (coefficient cumulus (t (d all)) b p) (roundedAll (x (d all)))) same)))
+      (fun-ext (λ b. ap floatOf (total-agreed (w all) (roundedAll (x (d all))) (state-is all) (t (d all)) b (piece n) ∙ ap (λ p. total (coefficient cumulus (t (d all)) b p) (roundedAll (x (d all)))) same)))
       ∙ done-answer (t (d all)) (x (d all)) (nothing all)
 
 refused-requires : tie.Need-refused-requires

@@ -6,7 +6,7 @@ use Prim.Native.Nat.{_^_}
 use lib.IntN.{pos}
 use lib.Ieee.{Float, binary64, div, ofInt, ofBits}
 use mir.Facts.{toZ-ofZ}
-use Rattle.rounding.specs.Answer.{answerOf}
+use Rattle.rounding.specs.Answer.{floatOf}
 use Rattle.rounding.proofs.answer.Statement.{statement}
 use Rattle.rounding.proofs.answer.Tie as tie
 
@@ -14,7 +14,7 @@ nearest-i64-to-f64-requires : tie.Need-nearest-i64-to-f64-requires
 nearest-i64-to-f64-requires c κs = search needs
 
 returns : tie.Need-returns
-unfolding answerOf ofInt ofBits
+unfolding floatOf ofInt ofBits
 returns c =
     ap (λ (y : Float). div binary64 y (ofInt binary64 (pos (10 ^ 17))))
     (c .nearest-i64-to-f64 .ensures ∙ ap (ofInt binary64) (toZ-ofZ (c .before .fits .z)))

@@ -5,23 +5,23 @@ use Prim.Native.Nat.{_^_}
 use lib.IntN.{pos, negsuc}
 use lib.Ieee.{binary64, round, div, ofInt, ofBits, fin}
 use lib.Ieee.Exact.{HasValue}
-use Rattle.rounding.specs.Answer.{answerOf}
+use Rattle.rounding.specs.Answer.{floatOf}
 
 divisor-exact : HasValue (ofInt binary64 (pos (10 ^ 17))) false (10 ^ 17) 1
 unfolding ofInt
 divisor-exact = (refl, refl)
 
 -- -2566000000000000 is answered by the float nearest to -0.02566
-state-zero : answerOf (negsuc 2565999999999999) ≡ round binary64 true 2566 100000
-unfolding answerOf div ofInt
+state-zero : floatOf (negsuc 2565999999999999) ≡ round binary64 true 2566 100000
+unfolding floatOf div ofInt
 state-zero = refl
 
-state-zero-bits : answerOf (negsuc 2565999999999999) ≡ ofBits binary64 0xbf9a_469d_7342_edbb
-unfolding answerOf div ofInt ofBits
+state-zero-bits : floatOf (negsuc 2565999999999999) ≡ ofBits binary64 0xbf9a_469d_7342_edbb
+unfolding floatOf div ofInt ofBits
 state-zero-bits = refl
 
-one : answerOf (pos (10 ^ 17)) ≡ fin false 1 (pos 0)
-unfolding answerOf div ofInt
+one : floatOf (pos (10 ^ 17)) ≡ fin false 1 (pos 0)
+unfolding floatOf div ofInt
 one = refl
 
 -- the largest i64 is no float, and 2⁶³ is the nearest

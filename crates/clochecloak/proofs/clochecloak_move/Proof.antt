@@ -1,11 +1,11 @@
--- `host::clochecloak_move` meets its contract: it hands its arguments on. Assumes nothing.
+-- `clochecloak::clochecloak_move` meets its contract: it hands its arguments on. Assumes nothing.
 use mathlib.Core.Path.{_≡_, _∙_, ap}
 use borrow.Author.Needs.{needs}
 use mir.Facts.{toZ-ofZ}
 use Rattle.layout.specs.Shape.{cumulus}
 use Rattle.layout.specs.Moving.{moveNumber, moveOutput}
-use Rattle.host.proofs.clochecloak_move.Statement.{statement}
-use Rattle.host.proofs.clochecloak_move.Tie as tie
+use Rattle.clochecloak.proofs.clochecloak_move.Statement.{statement}
+use Rattle.clochecloak.proofs.clochecloak_move.Tie as tie
 
 move-datum-requires : tie.Need-move-datum-requires
 move-datum-requires c κs = search needs

@@ -1,4 +1,4 @@
--- `words::signed` meets its contract: what is left of 2 ^ 63 and above fits, and so does its sum with the least number. Assumes nothing.
+-- `modular::signed` meets its contract: what is left of 2 ^ 63 and above fits, and so does its sum with the least number. Assumes nothing.
 use Prim.Native.Nat.{_^_, _-_, _<_}
 use mathlib.Core.Path.{subst⁻¹}
 use native.Mathlib.Omega.{arith}
@@ -11,8 +11,8 @@ use mir.Facts.{toZ-pos}
 use Rattle.whole.proofs.Identity.{quote, quote-pos, quote-negsuc, ring1}
 use Rattle.whole.proofs.Linear.{zarith}
 use borrow.Author.Needs.{needs}
-use Rattle.words.proofs.signed.Statement.{statement}
-use Rattle.words.proofs.signed.Tie as tie
+use Rattle.modular.proofs.signed.Statement.{statement}
+use Rattle.modular.proofs.signed.Tie as tie
 
 sum-fits : (z : ℤ) → pos 0 ≤ℤ z → SFits w64 z → SFits w64 (z +ℤ negsuc 9223372036854775807)
 sum-fits z = ring1 z (λ ρ e. simp (quote, quote-pos ρ, quote-negsuc ρ, e) (omega zarith))

@@ -1,10 +1,10 @@
--- `words::low_product` meets its contract: the product of two numbers below 2 ^ 32 is below 2 ^ 64. Assumes nothing.
+-- `modular::low_product` meets its contract: the product of two numbers below 2 ^ 32 is below 2 ^ 64. Assumes nothing.
 use Prim.Native.Nat.{ℕ, _*_, _^_, _%_, _<_, _≤_}
 use native.Mathlib.Nat.{mod-lt, mul-le-mul-right}
 use native.Mathlib.Omega.{arith}
 use borrow.Author.Needs.{needs}
-use Rattle.words.proofs.low_product.Statement.{statement}
-use Rattle.words.proofs.low_product.Tie as tie
+use Rattle.modular.proofs.low_product.Statement.{statement}
+use Rattle.modular.proofs.low_product.Tie as tie
 
 product-below : (x y : ℕ) → x < 4294967296 → y < 4294967296 → x * y < 2 ^ 64
 product-below x y p q =

@@ -1,4 +1,4 @@
--- `host::clochecloak_read` meets its contract: it hands the five readings on as a state. Assumes nothing.
+-- `clochecloak::clochecloak_read` meets its contract: it hands the five readings on as a state. Assumes nothing.
 use mathlib.Core.Path.{_≡_, _∙_, ap}
 use mathlib.Core.List.{List, [], _∷_}
 use borrow.Author.Needs.{needs}
@@ -7,8 +7,8 @@ use mir.Val.{toZ, ofZ}
 use mir.Facts.{toZ-ofZ}
 use Rattle.layout.specs.Shape.{cumulus}
 use Rattle.layout.specs.Reading.{readings, readNumber, readOutput}
-use Rattle.host.proofs.clochecloak_read.Statement.{statement}
-use Rattle.host.proofs.clochecloak_read.Tie as tie
+use Rattle.clochecloak.proofs.clochecloak_read.Statement.{statement}
+use Rattle.clochecloak.proofs.clochecloak_read.Tie as tie
 
 read-requires : tie.Need-read-requires
 read-requires c κs = search needs

@@ -1,8 +1,8 @@
--- `words::below` meets its contract: a remainder is below its divisor. Assumes nothing.
+-- `modular::below` meets its contract: a remainder is below its divisor. Assumes nothing.
 use native.Mathlib.Nat.{mod-lt}
 use borrow.Author.Needs.{needs}
-use Rattle.words.proofs.below.Statement.{statement}
-use Rattle.words.proofs.below.Tie as tie
+use Rattle.modular.proofs.below.Statement.{statement}
+use Rattle.modular.proofs.below.Tie as tie
 
 next-requires : tie.Need-next-requires
 next-requires c κs = search needs

@@ -1,9 +1,9 @@
--- `words::checksum` meets its contract: the loop counts up to its end. Assumes nothing.
+-- `modular::checksum` meets its contract: the loop counts up to its end. Assumes nothing.
 use Prim.Native.Nat.{_≤_, _-_}
 use lib.ListN.{length}
 use borrow.Author.Needs.{needs}
-use Rattle.words.proofs.checksum.Statement.{statement}
-use Rattle.words.proofs.checksum.Tie as tie
+use Rattle.modular.proofs.checksum.Statement.{statement}
+use Rattle.modular.proofs.checksum.Tie as tie
 
 abbrev Inv-loop : tie.InvT-loop
 Inv-loop numbers c₀ k₀ c k = (k ≤ length numbers)
