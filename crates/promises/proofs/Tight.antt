@@ -1,32 +1,253 @@
--- Any two results that a public contract allows are equal: the number given back, and every number of the lent space afterwards.
--- `Post` is the contract as it is generated from the code's own `ensures`. Assumes nothing.
-use mathlib.Core.Path.{_≡_, sym, _∙_}
-use Prim.Native.Nat.{ℕ}
+-- Every public contract but one leaves no choice: any two outcomes that it allows have the same result, and leave the same numbers in every slice that was lent. docs/CONTRACTS.md has the
+-- functions in a table, with the one that is loose. Assumes nothing.
+--   Ensures      what a contract says of the arguments, the result and the parameters at exit
+--   Outcome      what a call may give back and leave behind by a contract
+--   Tight        any two outcomes of a call are the same, for all arguments, whether or not they meet the `requires`
+--   tight        it is enough that the result and each lent slice are
+--   FN-tight     the contract of the function FN, as it is generated from the code's own `ensures`; a method has its type's name in front
+use mathlib.Core.Path.{_≡_, refl, sym, _∙_, ap}
+use mathlib.Core.List.{List, [], _∷_}
+use Prim.Native.Nat.{ℕ, _<_}
+use native.Mathlib.Decide.{decLt}
+use native.Mathlib.Omega.{arith}
+use lib.IntN.{ℤ}
+use lib.ListN.{length, take}
 use contract.Lifetimes.{Lfts}
-use borrow.Fn.Kinds.{Dens, endedOf}
-use denote.Triple.Clauses.{AtExit}
-use Rattle.cumulus.proofs.publish.Kinds as publish-kinds
-use Rattle.cumulus.proofs.publish.Reads as publish
-use Rattle.tables.proofs.reading.read.Kinds as read-kinds
-use Rattle.tables.proofs.reading.read.Reads as read
-use Rattle.tables.proofs.moving.move_datum.Kinds as move-kinds
-use Rattle.tables.proofs.moving.move_datum.Reads as move-datum
-use Rattle.door.specs.declared.Answer.{Answer}
-use Rattle.door.proofs.read_floats.Kinds as door-kinds
-use Rattle.door.proofs.read_floats.Reads as read-floats
+use denote.Exit.{Exit, unchanged, leaves, Last}
+use denote.RattleType.{Denots}
+use denote.Signature.{Slot, typesAt}
+use denote.Triple.Entry.{Args, Res}
+use denote.Triple.End.{Kepts, Fins}
+use denote.Triple.Clauses.{Ended, Lasts, AtExit, atExit}
+use Rattle.polynomials.specs.Order.{next, powers, place}
+use Rattle.polynomials.specs.declared.Powers.{Powers}
+use Rattle.polynomials.proofs.Places.{place-next, powers-place}
+use Rattle.limits.specs.declared.Limits.{Limits}
+use Rattle.printing.specs.Spell.{written}
+use Rattle.answers.specs.Reading.{readingsAfter, answersOf, Feeding}
+use Rattle.answers.specs.declared.Reading.{Reading}
+use Rattle.answers.specs.declared.Fed.{Fed}
+use Rattle.whole.proofs as whole
+use Rattle.polynomials.proofs as polynomials
+use Rattle.limits.proofs as limits
+use Rattle.weights.proofs as weights
+use Rattle.quick.proofs as quick
+use Rattle.blocks.proofs as blocks
+use Rattle.tables.proofs as tables
+use Rattle.cumulus.proofs as cumulus
+use Rattle.rounding.proofs as rounding
+use Rattle.door.proofs as door
+use Rattle.clochecloak.proofs as clochecloak
+use Rattle.lines.proofs as lines
+use Rattle.printing.proofs as printing
+use Rattle.answers.proofs as answers
 
-pub publish-tight : (κs : Lfts 1) (a : Dens κs publish-kinds.ps) (r₁ r₂ : ℕ) (s₁ s₂ : AtExit (endedOf 1 publish-kinds.ps publish-kinds.r) κs) → publish.Post κs a r₁ s₁ → publish.Post κs a r₂ s₂
-    → (r₁ ≡ r₂) × (s₁ .0 .now ≡ s₂ .0 .now)
-publish-tight κs a r₁ r₂ s₁ s₂ p q = (p .0 ∙ sym (q .0), p .1 ∙ sym (q .1))
+abbrev pub Ensures : Ended → Type 1
+Ensures T = (κs : Lfts (T .signature .lifetimes)) → Args (T .signature) κs → Res (T .signature) κs → AtExit T κs → Type 0
 
-pub read-tight : (κs : Lfts 2) (a : Dens κs read-kinds.ps) (r₁ r₂ : ℕ) (s₁ s₂ : AtExit (endedOf 2 read-kinds.ps read-kinds.r) κs) → read.Post κs a r₁ s₁ → read.Post κs a r₂ s₂
-    → (r₁ ≡ r₂) × (s₁ .1 .1 .0 .now ≡ s₂ .1 .1 .0 .now)
-read-tight κs a r₁ r₂ s₁ s₂ p q = (p .0 ∙ sym (q .0), p .1 ∙ sym (q .1))
+-- `lasts` is what each slice that was lent to be written holds at the end; no other parameter can change
+pub record Outcome (T : Ended) (Post : Ensures T) (κs : Lfts (T .signature .lifetimes)) (a : Args (T .signature) κs) : Type 0 where
+  pub result : Res (T .signature) κs
+  pub lasts : Lasts T κs a
+  pub allowed : Post κs a result (atExit T κs a lasts)
 
-pub move-tight : (κs : Lfts 2) (a : Dens κs move-kinds.ps) (r₁ r₂ : ℕ) (s₁ s₂ : AtExit (endedOf 2 move-kinds.ps move-kinds.r) κs) → move-datum.Post κs a r₁ s₁ → move-datum.Post κs a r₂ s₂
-    → (r₁ ≡ r₂) × (s₁ .1 .1 .1 .0 .now ≡ s₂ .1 .1 .1 .0 .now)
-move-tight κs a r₁ r₂ s₁ s₂ p q = (p .0 ∙ sym (q .0), p .1 ∙ sym (q .1))
+abbrev pub Tight : (T : Ended) → Ensures T → Type 0
+Tight T Post = (κs : Lfts (T .signature .lifetimes)) (a : Args (T .signature) κs) (o p : Outcome T Post κs a) → (o .result ≡ p .result) × (o .lasts ≡ p .lasts)
 
-pub read-floats-tight : (κs : Lfts 1) (a : Dens κs door-kinds.ps) (r₁ r₂ : Answer) (s₁ s₂ : AtExit (endedOf 1 door-kinds.ps door-kinds.r) κs) → read-floats.Post κs a r₁ s₁ → read-floats.Post κs a r₂ s₂
-    → r₁ ≡ r₂
-read-floats-tight κs a r₁ r₂ s₁ s₂ p q = p ∙ sym q
+-- ════ the lent slices one by one, and the other parameters passed over
+abbrev Also : {D : Type 0} (e : Exit D) (x : D) → Last e x → Last e x → Type 0 → Type 0
+Also unchanged x v w P = P
+Also (leaves L l S s) x v w P = (v ≡ w) × P
+
+also : {D : Type 0} (e : Exit D) (x : D) (v w : Last e x) {P : Type 0} → Also e x v w P → (v ≡ w) × P
+also unchanged x v w h = (refl, h)
+also (leaves L l S s) x v w h = h
+
+module _ {n : ℕ} (κs : Lfts n) where
+  abbrev Alike : (ss : List (Slot n)) (ks : Kepts ss) (a : Denots (typesAt ss κs)) → Fins κs ss ks a → Fins κs ss ks a → Type 0
+  Alike [] ks a v w = Unit {0}
+  Alike (s ∷ ss) ks a v w = Also (s .row κs .exit (ks .0)) (a .0) (v .0) (w .0) (Alike ss (ks .1) (a .1) (v .1) (w .1))
+
+  alike : (ss : List (Slot n)) (ks : Kepts ss) (a : Denots (typesAt ss κs)) (v w : Fins κs ss ks a) → Alike ss ks a v w → v ≡ w
+  alike [] ks a v w h = refl
+  alike (s ∷ ss) ks a v w h = let e = also (s .row κs .exit (ks .0)) (a .0) (v .0) (w .0) h in λ i. (e .0 i, alike ss (ks .1) (a .1) (v .1) (w .1) (e .1) i)
+
+tight : {T : Ended} {Post : Ensures T} {κs : Lfts (T .signature .lifetimes)} {a : Args (T .signature) κs} (o p : Outcome T Post κs a)
+    → (o .result ≡ p .result) × Alike κs (T .signature .params) (T .kept) a (o .lasts) (p .lasts) → (o .result ≡ p .result) × (o .lasts ≡ p .lasts)
+tight {T} {κs = κs} {a} o p h = (h .0, alike κs (T .signature .params) (T .kept) a (o .lasts) (p .lasts) (h .1))
+
+-- both are what the contract names
+same : {A : Type 0} {x y z : A} → x ≡ z → y ≡ z → x ≡ y
+same p q = p ∙ sym q
+
+-- ════ whole
+pub magnitude-tight : Tight whole.magnitude.ended whole.magnitude.Reads.Post
+magnitude-tight κs a o p = tight o p (search same)
+
+-- ════ polynomials
+at-place : (w : Powers) → powers (place (w .first) (w .second)) ≡ w
+at-place w = let e = powers-place (w .first) (w .second) in λ i. record { first = e .0 i; second = e .1 i }
+
+-- `previous` says what stands next to its result, and that stands next to nothing else
+same-powers : {v w : Powers} → next v ≡ next w → v ≡ w
+same-powers {v} {w} e =
+    let d : place (v .first) (v .second) ≡ place (w .first) (w .second) = omega (arith, place-next v, place-next w, ap (λ u. place (u .first) (u .second)) e) in
+    sym (at-place v) ∙ ap powers d ∙ at-place w
+
+pub powers-next-tight : Tight polynomials.Powers.next.ended polynomials.Powers.next.Reads.Post
+powers-next-tight κs a o p = tight o p (search same)
+
+pub powers-previous-tight : Tight polynomials.Powers.previous.ended polynomials.Powers.previous.Reads.Post
+powers-previous-tight κs a o p = tight o p (search (same, same-powers))
+
+pub powers-of-tight : Tight polynomials.powers_of.ended polynomials.powers_of.Reads.Post
+powers-of-tight κs a o p = tight o p (search same)
+
+pub value-at-tight : Tight polynomials.value_at.ended polynomials.value_at.Reads.Post
+value-at-tight κs a o p = tight o p (search same)
+
+pub add-term-tight : Tight polynomials.add_term.ended polynomials.add_term.Reads.Post
+add-term-tight κs a o p = tight o p (search same)
+
+pub move-group-tight : Tight polynomials.move_group.ended polynomials.move_group.Reads.Post
+move-group-tight κs a o p = tight o p (search same)
+
+-- ════ limits
+same-limits : {x y : Limits} → x .numbers ≡ y .numbers → x ≡ y
+same-limits e i = record { numbers = e i }
+
+pub limits-of-tight : Tight limits.Limits.of.ended limits.Limits.of.Reads.Post
+limits-of-tight κs a o p = tight o p (search (same, same-limits))
+
+pub limits-lowest-tight : Tight limits.Limits.lowest.ended limits.Limits.lowest.Reads.Post
+limits-lowest-tight κs a o p = tight o p (search same)
+
+pub limits-highest-tight : Tight limits.Limits.highest.ended limits.Limits.highest.Reads.Post
+limits-highest-tight κs a o p = tight o p (search same)
+
+pub limits-in-range-tight : Tight limits.Limits.in_range.ended limits.Limits.in_range.Reads.Post
+limits-in-range-tight κs a o p = tight o p (search same)
+
+pub limits-good-tight : Tight limits.Limits.good.ended limits.Limits.good.Reads.Post
+limits-good-tight κs a o p = tight o p (search same)
+
+pub limits-moved-tight : Tight limits.Limits.moved.ended limits.Limits.moved.Reads.Post
+limits-moved-tight κs a o p = tight o p (search (same, same-limits))
+
+pub limits-reaches-tight : Tight limits.Limits.reaches.ended limits.Limits.reaches.Reads.Post
+limits-reaches-tight κs a o p = tight o p (search same)
+
+pub limits-inside-tight : Tight limits.Limits.inside.ended limits.Limits.inside.Reads.Post
+limits-inside-tight κs a o p = tight o p (search same)
+
+pub limits-outside-tight : Tight limits.Limits.outside.ended limits.Limits.outside.Reads.Post
+limits-outside-tight κs a o p = tight o p (search same)
+
+pub limits-in-low-piece-tight : Tight limits.Limits.in_low_piece.ended limits.Limits.in_low_piece.Reads.Post
+limits-in-low-piece-tight κs a o p = tight o p (search same)
+
+-- ════ weights
+pub each-within-tight : Tight weights.each_within.ended weights.each_within.Reads.Post
+each-within-tight κs a o p = tight o p (search same)
+
+-- ════ quick
+pub within-cap-tight : Tight quick.within_cap.ended quick.within_cap.Reads.Post
+within-cap-tight κs a o p = tight o p (search same)
+
+-- ════ blocks
+pub coefficient-at-tight : Tight blocks.coefficient_at.ended blocks.coefficient_at.Reads.Post
+coefficient-at-tight κs a o p = tight o p (search same)
+
+pub move-block-tight : Tight blocks.move_block.ended blocks.move_block.Reads.Post
+move-block-tight κs a o p = tight o p (search same)
+
+-- ════ tables
+pub soundness-tight : Tight tables.soundness.soundness.ended tables.soundness.soundness.Reads.Post
+soundness-tight κs a o p = tight o p (search same)
+
+pub refusal-of-tight : Tight tables.soundness.refusal_of.ended tables.soundness.refusal_of.Reads.Post
+refusal-of-tight κs a o p = tight o p (search same)
+
+pub read-known-tight : Tight tables.reading.read_known.ended tables.reading.read_known.Reads.Post
+read-known-tight κs a o p = tight o p (search same)
+
+pub read-tight : Tight tables.reading.read.ended tables.reading.read.Reads.Post
+read-tight κs a o p = tight o p (search same)
+
+pub move-datum-tight : Tight tables.moving.move_datum.ended tables.moving.move_datum.Reads.Post
+move-datum-tight κs a o p = tight o p (search same)
+
+-- ════ cumulus
+pub publish-tight : Tight cumulus.publish.ended cumulus.publish.Reads.Post
+publish-tight κs a o p = tight o p (search same)
+
+-- ════ rounding
+pub step-of-tight : Tight rounding.step_of.ended rounding.step_of.Reads.Post
+step-of-tight κs a o p = tight o p (search same)
+
+pub answer-tight : Tight rounding.answer.ended rounding.answer.Reads.Post
+answer-tight κs a o p = tight o p (search same)
+
+-- ════ door
+pub read-floats-tight : Tight door.read_floats.ended door.read_floats.Reads.Post
+read-floats-tight κs a o p = tight o p (search same)
+
+-- ════ clochecloak
+pub clochecloak-publish-tight : Tight clochecloak.clochecloak_publish.ended clochecloak.clochecloak_publish.Reads.Post
+clochecloak-publish-tight κs a o p = tight o p (search same)
+
+pub clochecloak-read-tight : Tight clochecloak.clochecloak_read.ended clochecloak.clochecloak_read.Reads.Post
+clochecloak-read-tight κs a o p = tight o p (search same)
+
+pub clochecloak-move-tight : Tight clochecloak.clochecloak_move.ended clochecloak.clochecloak_move.Reads.Post
+clochecloak-move-tight κs a o p = tight o p (search same)
+
+pub clochecloak-read-floats-tight : Tight clochecloak.clochecloak_read_floats.ended clochecloak.clochecloak_read_floats.Reads.Post
+clochecloak-read-floats-tight κs a o p = tight o p (search same)
+
+-- ════ lines
+pub state-start-tight : Tight lines.State.start.ended lines.State.start.Reads.Post
+state-start-tight κs a o p = tight o p (search same)
+
+pub state-step-tight : Tight lines.State.step.ended lines.State.step.Reads.Post
+state-step-tight κs a o p = tight o p (search same)
+
+pub state-finish-tight : Tight lines.State.finish.ended lines.State.finish.Reads.Post
+state-finish-tight κs a o p = tight o p (search same)
+
+-- ════ printing
+pub put-digits-tight : Tight printing.put_digits.ended printing.put_digits.Reads.Post
+put-digits-tight κs a o p = tight o p (search same)
+
+pub put-number-tight : Tight printing.put_number.ended printing.put_number.Reads.Post
+put-number-tight κs a o p = tight o p (search same)
+
+-- ════ answers
+-- `feed` says where it stops by the room for an answer: there is enough before each byte that is taken, and not where a byte is left
+module _ (t : List ℤ) (r : Reading) (input out : List ℕ) where
+  not-further : (out₁ out₂ : List ℕ) (f g : Fed) → Feeding t r input out out₁ f → Feeding t r input out out₂ g → f .taken < g .taken → ⊥
+  not-further out₁ out₂ f g p q h = omega (arith, p .place, p .full (omega (arith, q .within, h)), q .roomy (f .taken) h)
+
+  same-taken : (out₁ out₂ : List ℕ) (f g : Fed) → Feeding t r input out out₁ f → Feeding t r input out out₂ g → f .taken ≡ g .taken
+  same-taken out₁ out₂ f g p q = go (decLt (f .taken) (g .taken)) (decLt (g .taken) (f .taken))
+    where
+      go : Dec (f .taken < g .taken) → Dec (g .taken < f .taken) → f .taken ≡ g .taken
+      go (yes h) k = absurd (not-further out₁ out₂ f g p q h)
+      go (no h) (yes k) = absurd (not-further out₂ out₁ g f q p k)
+      go (no h) (no k) = omega arith
+
+  same-fed : (out₁ out₂ : List ℕ) (f g : Fed) → Feeding t r input out out₁ f → Feeding t r input out out₂ g → (f ≡ g) × (out₁ ≡ out₂)
+  same-fed out₁ out₂ f g p q =
+      let e = same-taken out₁ out₂ f g p q in
+      let a : f .reading ≡ g .reading = p .reading ∙ ap (λ n. readingsAfter r (take n input)) e ∙ sym (q .reading) in
+      let b : f .put ≡ g .put = p .place ∙ ap (λ n. length (answersOf t r (take n input))) e ∙ sym (q .place) in
+      ((λ i. record { reading = a i; taken = e i; put = b i }), p .output ∙ ap (λ n. written out 0 (answersOf t r (take n input))) e ∙ sym (q .output))
+
+pub reading-fresh-tight : Tight answers.Reading.fresh.ended answers.Reading.fresh.Reads.Post
+reading-fresh-tight κs a o p = tight o p (search same)
+
+pub feed-tight : Tight answers.feed.ended answers.feed.Reads.Post
+feed-tight κs a o p = let h = same-fed _ _ _ _ _ _ _ _ (o .allowed) (p .allowed) in tight o p (search h)
+
+pub finish-tight : Tight answers.finish.ended answers.finish.Reads.Post
+finish-tight κs a o p = tight o p (search same)
