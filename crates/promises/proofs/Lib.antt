@@ -1,3 +1,3 @@
--- What the library promises, sentence by sentence, and that each contract leaves no choice.
+-- What the library promises, sentence by sentence, and that its public contracts leave no choice.
 pub mod Promises
 pub mod Tight

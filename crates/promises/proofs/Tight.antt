@@ -3,7 +3,7 @@
 --   Ensures      what a contract says of the arguments, the result and the parameters at exit
 --   Outcome      what a call may give back and leave behind by a contract
 --   Tight        any two outcomes of a call are the same, for all arguments, whether or not they meet the `requires`
---   tight        it is enough that the result and each lent slice are
+--   tight        it is enough that the result and each lent slice are the same
 --   FN-tight     the contract of the function FN, as it is generated from the code's own `ensures`; a method has its type's name in front
 use mathlib.Core.Path.{_≡_, refl, sym, _∙_, ap}
 use mathlib.Core.List.{List, [], _∷_}
@@ -64,17 +64,17 @@ also unchanged x v w h = (refl, h)
 also (leaves L l S s) x v w h = h
 
 module _ {n : ℕ} (κs : Lfts n) where
-  abbrev Alike : (ss : List (Slot n)) (ks : Kepts ss) (a : Denots (typesAt ss κs)) → Fins κs ss ks a → Fins κs ss ks a → Type 0
-  Alike [] ks a v w = Unit {0}
-  Alike (s ∷ ss) ks a v w = Also (s .row κs .exit (ks .0)) (a .0) (v .0) (w .0) (Alike ss (ks .1) (a .1) (v .1) (w .1))
+  abbrev SameLasts : (ss : List (Slot n)) (ks : Kepts ss) (a : Denots (typesAt ss κs)) → Fins κs ss ks a → Fins κs ss ks a → Type 0
+  SameLasts [] ks a v w = Unit {0}
+  SameLasts (s ∷ ss) ks a v w = Also (s .row κs .exit (ks .0)) (a .0) (v .0) (w .0) (SameLasts ss (ks .1) (a .1) (v .1) (w .1))
 
-  alike : (ss : List (Slot n)) (ks : Kepts ss) (a : Denots (typesAt ss κs)) (v w : Fins κs ss ks a) → Alike ss ks a v w → v ≡ w
-  alike [] ks a v w h = refl
-  alike (s ∷ ss) ks a v w h = let e = also (s .row κs .exit (ks .0)) (a .0) (v .0) (w .0) h in λ i. (e .0 i, alike ss (ks .1) (a .1) (v .1) (w .1) (e .1) i)
+  same-lasts : (ss : List (Slot n)) (ks : Kepts ss) (a : Denots (typesAt ss κs)) (v w : Fins κs ss ks a) → SameLasts ss ks a v w → v ≡ w
+  same-lasts [] ks a v w h = refl
+  same-lasts (s ∷ ss) ks a v w h = let e = also (s .row κs .exit (ks .0)) (a .0) (v .0) (w .0) h in λ i. (e .0 i, same-lasts ss (ks .1) (a .1) (v .1) (w .1) (e .1) i)
 
 tight : {T : Ended} {Post : Ensures T} {κs : Lfts (T .signature .lifetimes)} {a : Args (T .signature) κs} (o p : Outcome T Post κs a)
-    → (o .result ≡ p .result) × Alike κs (T .signature .params) (T .kept) a (o .lasts) (p .lasts) → (o .result ≡ p .result) × (o .lasts ≡ p .lasts)
-tight {T} {κs = κs} {a} o p h = (h .0, alike κs (T .signature .params) (T .kept) a (o .lasts) (p .lasts) (h .1))
+    → (o .result ≡ p .result) × SameLasts κs (T .signature .params) (T .kept) a (o .lasts) (p .lasts) → (o .result ≡ p .result) × (o .lasts ≡ p .lasts)
+tight {T} {κs = κs} {a} o p h = (h .0, same-lasts κs (T .signature .params) (T .kept) a (o .lasts) (p .lasts) (h .1))
 
 -- both are what the contract names
 same : {A : Type 0} {x y z : A} → x ≡ z → y ≡ z → x ≡ y
@@ -224,21 +224,21 @@ put-number-tight κs a o p = tight o p (search same)
 
 -- ════ answers
 -- `feed` says where it stops by the room for an answer: there is enough before each byte that is taken, and not where a byte is left
-module _ (t : List ℤ) (r : Reading) (input out : List ℕ) where
-  not-further : (out₁ out₂ : List ℕ) (f g : Fed) → Feeding t r input out out₁ f → Feeding t r input out out₂ g → f .taken < g .taken → ⊥
-  not-further out₁ out₂ f g p q h = omega (arith, p .place, p .full (omega (arith, q .within, h)), q .roomy (f .taken) h)
+module _ {t : List ℤ} {r : Reading} {input out : List ℕ} where
+  not-further : {out₁ out₂ : List ℕ} {f g : Fed} → Feeding t r input out out₁ f → Feeding t r input out out₂ g → f .taken < g .taken → ⊥
+  not-further {f = f} p q h = omega (arith, p .place, p .full (omega (arith, q .within, h)), q .roomy (f .taken) h)
 
-  same-taken : (out₁ out₂ : List ℕ) (f g : Fed) → Feeding t r input out out₁ f → Feeding t r input out out₂ g → f .taken ≡ g .taken
-  same-taken out₁ out₂ f g p q = go (decLt (f .taken) (g .taken)) (decLt (g .taken) (f .taken))
+  same-taken : {out₁ out₂ : List ℕ} {f g : Fed} → Feeding t r input out out₁ f → Feeding t r input out out₂ g → f .taken ≡ g .taken
+  same-taken {f = f} {g} p q = go (decLt (f .taken) (g .taken)) (decLt (g .taken) (f .taken))
     where
       go : Dec (f .taken < g .taken) → Dec (g .taken < f .taken) → f .taken ≡ g .taken
-      go (yes h) k = absurd (not-further out₁ out₂ f g p q h)
-      go (no h) (yes k) = absurd (not-further out₂ out₁ g f q p k)
+      go (yes h) k = absurd (not-further p q h)
+      go (no h) (yes k) = absurd (not-further q p k)
       go (no h) (no k) = omega arith
 
-  same-fed : (out₁ out₂ : List ℕ) (f g : Fed) → Feeding t r input out out₁ f → Feeding t r input out out₂ g → (f ≡ g) × (out₁ ≡ out₂)
-  same-fed out₁ out₂ f g p q =
-      let e = same-taken out₁ out₂ f g p q in
+  same-fed : {out₁ out₂ : List ℕ} {f g : Fed} → Feeding t r input out out₁ f → Feeding t r input out out₂ g → (f ≡ g) × (out₁ ≡ out₂)
+  same-fed {f = f} {g} p q =
+      let e = same-taken p q in
       let a : f .reading ≡ g .reading = p .reading ∙ ap (λ n. readingsAfter r (take n input)) e ∙ sym (q .reading) in
       let b : f .put ≡ g .put = p .place ∙ ap (λ n. length (answersOf t r (take n input))) e ∙ sym (q .place) in
       ((λ i. record { reading = a i; taken = e i; put = b i }), p .output ∙ ap (λ n. written out 0 (answersOf t r (take n input))) e ∙ sym (q .output))
@@ -247,7 +247,7 @@ pub reading-fresh-tight : Tight answers.Reading.fresh.ended answers.Reading.fres
 reading-fresh-tight κs a o p = tight o p (search same)
 
 pub feed-tight : Tight answers.feed.ended answers.feed.Reads.Post
-feed-tight κs a o p = let h = same-fed _ _ _ _ _ _ _ _ (o .allowed) (p .allowed) in tight o p (search h)
+feed-tight κs a o p = let h = same-fed (o .allowed) (p .allowed) in tight o p (search h)
 
 pub finish-tight : Tight answers.finish.ended answers.finish.Reads.Post
 finish-tight κs a o p = tight o p (search same)
