@@ -3,7 +3,8 @@
 --   number-read, value-read   five finite readings are answered as the whole-number read of the rounded readings
 --   rounded-nearest    each reading is rounded to the nearest whole number, a half to the even one
 --   zero-on-refusal    the six on a refusal
---   reading-outside, reading-elsewhere   the place that hands a reading back
+--   reading-step, reading-elsewhere   the place that hands a reading back
+--   value-number, reading-number   none of the seven floats is a NaN
 --   one-answer         the contract allows one answer
 use mathlib.Core.Path.{_≡_, refl, sym, _∙_, ap}
 use mathlib.Core.Bool.{Bool, true, false, not, cond}
@@ -15,7 +16,7 @@ use borrow.Author.Tests.{not-false, eq-eqb}
 use lib.Dec.{eqb}
 use lib.IntN.{ℤ, pos}
 use lib.ListN.{length, getD}
-use lib.Ieee.{Float}
+use lib.Ieee.{Float, isNan}
 use lib.Ieee.Scale.{finite}
 use Rattle.polynomials.specs.Sum.{listed}
 use Rattle.polynomials.specs.Groups.{total}
@@ -33,13 +34,14 @@ use Rattle.rounding.specs.Value.{numerator, denominator}
 use Rattle.rounding.specs.Nearest.{IsNearest}
 use Rattle.rounding.specs.Answer.{floatOf}
 use Rattle.rounding.proofs.Nearest.{reading-nearest}
-use Rattle.rounding.proofs.Answers.{zero-positive}
+use Rattle.rounding.specs.declared.Step.the-variants.{Outside}
+use Rattle.rounding.proofs.Answers.{zero-positive, never-nan}
 use Rattle.door.specs.declared.Answer.{Answer}
-use Rattle.door.specs.Steps.{positiveZero, notFinite}
-use Rattle.door.specs.Door.{roundedAll, stepAt, notFinites, outsides, doorNumber, readingFor, doorReading, doorValue, doorAnswer}
+use Rattle.door.specs.Steps.{positiveZero, notFinite, handedBack}
+use Rattle.door.specs.Door.{roundedAll, stepAt, notFinites, outsides, doorNumber, forOutside, readingFor, doorReading, floatAt, doorValue, doorAnswer}
 use Rattle.door.proofs.Firsts.{Found, none, at, found}
 use Rattle.door.proofs.Numbers.{refusedNotFinite, refusedOutside, named-not-finite, named-outside, past-finite, back-below, back-above, back-given, zero-refused, value-done, reading-is}
-use Rattle.door.proofs.Told.{not-finite-told, outside-told, given-told, first-same, outside-found}
+use Rattle.door.proofs.Told.{not-finite-told, outside-told, outside-step, number-step, first-same, outside-found}
 
 -- the tests of the table give none of the numbers from 11
 past-tests : (a b c : Bool) (n i : ℕ) → cond a wrongTable (cond b badLimits (cond c tooHeavy n)) ≡ 11 + i → n ≡ 11 + i
@@ -126,12 +128,12 @@ module _ (t : List ℤ) (x : ℕ → Float) where
   pub zero-on-refusal : (doorNumber cumulus t x ≡ 0 → ⊥) → (b : ℕ) → doorValue cumulus t x b ≡ positiveZero
   zero-on-refusal h = zero-refused t x (doorNumber cumulus t x) refl (omega (arith, h))
 
-  -- Where the reading of variable i is refused as outside, it is handed back as given.
-  pub reading-outside : (i : ℕ) → i < 5 → doorNumber cumulus t x ≡ outside i → doorReading cumulus t x ≡ x i
+  -- Where the reading of variable i is refused as outside, its step carries it as given, and hands it back.
+  pub reading-step : (i : ℕ) → i < 5 → doorNumber cumulus t x ≡ outside i → (stepAt t x i ≡ Outside (x i)) × (doorReading cumulus t x ≡ handedBack (stepAt t x i))
   unfolding doorNumber first
-  reading-outside i h e =
+  reading-step i h e =
       let step = outside-found (stepAt t x) i h (past-tests (not (eqb (length t) (tableLength cumulus))) (not (good cumulus t)) (not (light cumulus t)) _ i e) in
-      reading-is t x (11 + i) e ∙ back-given (stepAt t x) i h ∙ given-told (x i) (lowest t i) (highest t i) step
+      (outside-step (x i) (lowest t i) (highest t i) step, reading-is t x (11 + i) e ∙ back-given (stepAt t x) i h)
 
   -- With every other number, 0 included, positive zero is handed back.
   pub reading-elsewhere : ((i : ℕ) → i < 5 → doorNumber cumulus t x ≡ outside i → ⊥) → doorReading cumulus t x ≡ positiveZero
@@ -141,6 +143,23 @@ module _ (t : List ℤ) (x : ℕ → Float) where
       go (yes a) b = back-below (stepAt t x) (doorNumber cumulus t x) a
       go (no a) (no b) = back-above (stepAt t x) (doorNumber cumulus t x) (omega arith)
       go (no a) (yes b) = absurd (h (doorNumber cumulus t x - 11) (omega arith) (omega arith))
+
+  -- None of the seven floats is a NaN.
+  pub value-number : (b : ℕ) → isNan (doorValue cumulus t x b) ≡ false
+  unfolding doorValue isNan
+  value-number b = go (eqb (doorNumber cumulus t x) 0)
+    where
+      go : (c : Bool) → isNan (cond c (floatAt cumulus t (roundedAll x) b) positiveZero) ≡ false
+      go true = never-nan (total (coefficient cumulus t b (pieceAt t (roundedAll x))) (roundedAll x))
+      go false = refl
+
+  pub reading-number : isNan (doorReading cumulus t x) ≡ false
+  unfolding doorReading isNan
+  reading-number = go (forOutside cumulus (doorNumber cumulus t x)) (doorNumber cumulus t x - 11)
+    where
+      go : (c : Bool) (i : ℕ) → isNan (cond c (handedBack (stepAt t x i)) positiveZero) ≡ false
+      go true i = number-step (x i) (lowest t i) (highest t i)
+      go false i = refl
 
   -- Any two answers that the contract allows are equal.
   pub one-answer : (a b : Answer) → a ≡ doorAnswer t x → b ≡ doorAnswer t x → a ≡ b

@@ -1,10 +1,15 @@
 -- Among the refusals f 0, f 1, .., f (n - 1), none holds or there is a first that does.
-use mathlib.Core.Path.{_≡_, refl}
+--   Found, found    which of the two
+--   first-exactly   where no two have the same number, that of f i is given exactly where f i holds and none before it does
+use mathlib.Core.Path.{_≡_, refl, sym, _∙_, subst}
+use mathlib.Core.Logic.{_↔_}
 use mathlib.Core.Bool.{Bool, true, false}
 use Prim.Native.Nat.{ℕ, zero, suc, _<_}
 use native.Mathlib.Decide.{decLt}
 use native.Mathlib.Omega.{arith}
-use Rattle.layout.specs.Refusals.{Refusal}
+use Rattle.polynomials.specs.Sum.{listed}
+use Rattle.layout.specs.Refusals.{Refusal, first}
+use Rattle.limits.proofs.Firsts.{first-none, first-at}
 
 pub data Found (f : ℕ → Refusal) (n : ℕ) : Type 0 where
   none : ((i : ℕ) → i < n → f i .holds ≡ false) → Found f n
@@ -26,3 +31,12 @@ module _ (f : ℕ → Refusal) where
       go (at k h before one) b e = at k (omega arith) before one
       go (none all) true e = at n (omega arith) all e
       go (none all) false e = none (one-more n all e)
+
+  pub first-exactly : (n i : ℕ) → i < n → 0 < f i .number → ((k : ℕ) → k < n → f k .number ≡ f i .number → k ≡ i)
+      → (first (listed n f) ≡ f i .number) ↔ (((k : ℕ) → k < i → f k .holds ≡ false) × (f i .holds ≡ true))
+  first-exactly n i h p apart = (λ e. go e (found n), λ g. first-at f i (g .0) (g .1) n h)
+    where
+      go : first (listed n f) ≡ f i .number → Found f n → ((k : ℕ) → k < i → f k .holds ≡ false) × (f i .holds ≡ true)
+      go e (none all) = absurd (omega (arith, first-none f n all))
+      go e (at k b before one) =
+          subst (λ j. ((k : ℕ) → k < j → f k .holds ≡ false) × (f j .holds ≡ true)) (apart k b (sym (first-at f k before one n b) ∙ e)) (before, one)

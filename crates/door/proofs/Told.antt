@@ -1,6 +1,7 @@
 -- The refusals of the steps, told by the floats themselves.
 --   not-finite-told, outside-told   a step's two tests
---   given-told                      what a step outside hands back
+--   outside-step                    a step outside carries the float as given
+--   number-step                     no step hands a NaN back
 --   first-same                      refusals that hold together, with the same number where they do, give the same first number
 --   outside-found                   the number of a variable outside is given only where its step is
 use mathlib.Core.Path.{_≡_, refl, sym, _∙_, subst}
@@ -9,9 +10,10 @@ use mathlib.Core.List.{_++_}
 use Prim.Native.Nat.{ℕ, _+_, _<_}
 use native.Mathlib.Decide.{decLt}
 use native.Mathlib.Omega.{arith}
+use lib.Dec.{T}
 use lib.IntN.{ℤ}
 use lib.Signed.{leZ}
-use lib.Ieee.{Float, nan, inf, fin}
+use lib.Ieee.{Float, nan, inf, fin, isNan}
 use lib.Ieee.Scale.{finite}
 use Rattle.polynomials.specs.Sum.{listed}
 use Rattle.layout.specs.Refusals.{Refusal, first}
@@ -47,13 +49,28 @@ outside-told nan lowest highest f = absurd (true≢false (sym f))
 outside-told (inf s) lowest highest f = absurd (true≢false (sym f))
 outside-told (fin s m e) lowest highest f = chosen-outside (leZ lowest (wholeOf (fin s m e)) && leZ (wholeOf (fin s m e)) highest) (wholeOf (fin s m e)) (fin s m e)
 
-given : (x : Float) (lowest highest : ℤ) (r : Step) → Stepped x lowest highest r → isOutside r ≡ true → handedBack r ≡ x
-given x lowest highest r (not-finite n) e = absurd (true≢false (sym e))
-given x lowest highest r (outside f p) e = refl
-given x lowest highest r (whole f l g) e = absurd (true≢false (sym e))
+carried : (x : Float) (lowest highest : ℤ) (r : Step) → Stepped x lowest highest r → isOutside r ≡ true → r ≡ Outside x
+carried x lowest highest r (not-finite n) e = absurd (true≢false (sym e))
+carried x lowest highest r (outside f p) e = refl
+carried x lowest highest r (whole f l g) e = absurd (true≢false (sym e))
 
-pub given-told : (x : Float) (lowest highest : ℤ) → isOutside (stepOf x lowest highest) ≡ true → handedBack (stepOf x lowest highest) ≡ x
-given-told x lowest highest = given x lowest highest (stepOf x lowest highest) (stepped x lowest highest)
+pub outside-step : (x : Float) (lowest highest : ℤ) → isOutside (stepOf x lowest highest) ≡ true → stepOf x lowest highest ≡ Outside x
+outside-step x lowest highest = carried x lowest highest (stepOf x lowest highest) (stepped x lowest highest)
+
+finite-number : (x : Float) → T (finite x) → isNan x ≡ false
+unfolding isNan
+finite-number nan f = absurd f
+finite-number (inf s) f = absurd f
+finite-number (fin s m e) f = refl
+
+back-number : (x : Float) (lowest highest : ℤ) (r : Step) → Stepped x lowest highest r → isNan (handedBack r) ≡ false
+unfolding isNan
+back-number x lowest highest r (not-finite n) = refl
+back-number x lowest highest r (outside f p) = finite-number x f
+back-number x lowest highest r (whole f l g) = refl
+
+pub number-step : (x : Float) (lowest highest : ℤ) → isNan (handedBack (stepOf x lowest highest)) ≡ false
+number-step x lowest highest = back-number x lowest highest (stepOf x lowest highest) (stepped x lowest highest)
 
 -- ---- all of them
 pub first-same : (f g : ℕ → Refusal) (n : ℕ) → ((i : ℕ) → i < n → f i .holds ≡ g i .holds) → ((i : ℕ) → f i .holds ≡ true → f i .number ≡ g i .number)

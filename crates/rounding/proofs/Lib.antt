@@ -5,7 +5,7 @@
 --   Signs        a reading by its sign
 --   Far          a reading that is too far from 0 for any limits
 --   Steps        what a step is, and what it tells
---   Answers      the answer that is zero
+--   Answers      the answer that is zero, and that no answer is a NaN
 --   controls     computed facts beside the definitions
 pub mod Sides
 pub mod Nearest

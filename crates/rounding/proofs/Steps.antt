@@ -1,16 +1,19 @@
 -- What a step is, by where the reading lies, and what a step tells of the reading.
+--   step-is                                                all of it in one equation
+--   zero-step                                              both zeros read as 0
 --   step-not-finite, step-below, step-above, step-inside   each of the four places
 --   Stepped, stepped                                       the places behind each of the three answers
 --   told-whole, told-outside, told-not-finite              what an answer in hand says
-use mathlib.Core.Path.{_≡_, refl, sym, subst}
+use mathlib.Core.Path.{_≡_, refl, sym, ap, subst}
 use mathlib.Core.Logic.{_⊎_, inl, inr}
 use mathlib.Core.Bool.{Bool, true, false, cond, _&&_, true≢false}
 use lib.Dec.{T}
-use lib.IntN.{ℤ}
+use lib.IntN.{ℤ, pos}
 use lib.Signed.{leZ, _≤ℤ_, _<ℤ_, leZ-yes, clashℤ}
 use lib.Ieee.{Float, nan, inf, fin}
 use lib.Ieee.Scale.{finite}
 use Rattle.whole.proofs.Order.{≤ℤ-or-<ℤ}
+use Rattle.rounding.specs.Nearest.{rounded, nearestWhole}
 use Rattle.rounding.specs.Reading.{wholeOf, stepOf}
 use Rattle.rounding.specs.declared.Step.{Step}
 use Rattle.rounding.specs.declared.Step.the-variants.{Whole, NotFinite, Outside}
@@ -29,6 +32,18 @@ neither false = refl
 
 not-le : {a b : ℤ} → a <ℤ b → leZ b a ≡ false
 not-le {a} {b} h = fails (leZ b a) (λ t. clashℤ h (leZ-yes t))
+
+pub step-is : (x : Float) (lowest highest : ℤ)
+    → stepOf x lowest highest ≡ cond (finite x) (cond (leZ lowest (wholeOf x) && leZ (wholeOf x) highest) (Whole (wholeOf x)) (Outside x)) NotFinite
+unfolding stepOf
+step-is nan lowest highest = refl
+step-is (inf s) lowest highest = refl
+step-is (fin s m e) lowest highest = refl
+
+pub zero-step : (s : Bool) (lowest highest : ℤ) → leZ lowest (pos 0) && leZ (pos 0) highest ≡ true → stepOf (fin s 0 (pos 0)) lowest highest ≡ Whole (pos 0)
+unfolding stepOf wholeOf nearestWhole rounded
+zero-step false lowest highest e = ap (λ b. cond b (Whole (pos 0)) (Outside (fin false 0 (pos 0)))) e
+zero-step true lowest highest e = ap (λ b. cond b (Whole (pos 0)) (Outside (fin true 0 (pos 0)))) e
 
 -- ════ the step at each place
 pub step-not-finite : (x : Float) (lowest highest : ℤ) → finite x ≡ false → stepOf x lowest highest ≡ NotFinite

@@ -20,7 +20,7 @@ use Rattle.layout.specs.Sound.{light}
 use Rattle.layout.specs.Refusals.{first, _when_}
 use Rattle.layout.specs.Reading.{readings, pieceAt}
 use Rattle.layout.proofs.LimitLaws.{limits-take, lowest-same, highest-same, good-facts}
-use Rattle.layout.proofs.Accepted.{Readable}
+use Rattle.layout.specs.Accepted.{ReadAccepted}
 use Rattle.blocks.specs.Ready.{Valued}
 use Rattle.tables.proofs.Taken.{cut-taken, range-taken}
 use Rattle.tables.proofs.Steps.{whole-table, not-whole, first-apart, sound-facts, valued, positive}
@@ -118,7 +118,7 @@ module _ (c : tie.After-wholes-in) where
       ap (λ l. getD l i (pos 0)) (c .wholes-in .ensures) ∙ getD-listed 5 (λ k. wholeIn (stepsOf (steps past .steps-of .result) k)) i (pos 0) h
       ∙ ap wholeIn (step-is (steps past) i h ∙ step-whole (t d) (x d) (finite past) within i h)
 
-  readable : Readable cumulus (t d) w (listed 6 (λ b. pos 0))
+  readable : ReadAccepted cumulus (t d) w (listed 6 (λ b. pos 0))
   readable = record {
     table = table-whole d;
     output = length-listed 6 (λ b. pos 0);

@@ -1,0 +1,97 @@
+-- The floating-point door. A step is what one reading comes to (`stepAt`); `numberOf` and `handedBack` give each case of a step its number and its float.
+use mathlib.Core.Path.{_≡_, refl}
+use mathlib.Core.Bool.{Bool, true, false, not, cond, _&&_}
+use mathlib.Core.List.{List, _∷_, _++_}
+use Prim.Native.Nat.{ℕ, _<_}
+use lib.Dec.{eqb}
+use lib.IntN.{ℤ, pos}
+use lib.ListN.{length, getD}
+use lib.Signed.{leZ}
+use lib.Ieee.{Float, fin, isNan}
+use lib.Ieee.Scale.{finite}
+use Rattle.polynomials.specs.Sum.{listed}
+use Rattle.layout.specs.Shape.{tableLength, cumulus}
+use Rattle.layout.specs.Limits.{lowest, highest, good}
+use Rattle.layout.specs.Sound.{light}
+use Rattle.layout.specs.Refusals.{_when_, first, wrongTable, badLimits, tooHeavy, outside}
+use Rattle.layout.specs.Reading.{inside, readNumber, readOutput}
+use Rattle.rounding.specs.Value.{numerator, denominator}
+use Rattle.rounding.specs.Nearest.{IsNearest}
+use Rattle.rounding.specs.Reading.{stepOf}
+use Rattle.rounding.specs.Answer.{floatOf}
+use Rattle.rounding.specs.declared.Step.the-variants.{Whole, NotFinite, Outside}
+use Rattle.rounding.proofs.Nearest.{reading-unique}
+use Rattle.rounding.proofs.Steps.{step-is, zero-step}
+use Rattle.rounding.proofs.Answers.{zero-positive}
+use Rattle.door.specs.Steps.{notFinite, positiveZero, numberOf, handedBack, isNotFinite, isOutside}
+use Rattle.door.specs.Door.{roundedAll, stepAt, doorNumber, doorReading, doorValue}
+use Rattle.door.proofs.Answers.{number-told, rounded-nearest, number-read, value-read, zero-on-refusal, reading-step, reading-elsewhere, value-number, reading-number}
+
+-- ════ The step of one reading
+-- Positive and negative zero both read as 0.
+pub door-reads-both-zeros : (negative : Bool) (lowest highest : ℤ) → leZ lowest (pos 0) && leZ (pos 0) highest ≡ true → stepOf (fin negative 0 (pos 0)) lowest highest ≡ Whole (pos 0)
+door-reads-both-zeros = zero-step
+
+module _ (t : List ℤ) (x : ℕ → Float) where
+  -- Each reading is rounded to the nearest whole number, within a half of its exact value, and to the even neighbour at a half.
+  pub door-rounds-to-nearest : (i : ℕ) → IsNearest (numerator (x i)) (denominator (x i)) (roundedAll x i)
+  door-rounds-to-nearest = rounded-nearest t x
+
+  -- Only one whole number is nearest so.
+  pub door-rounding-unique : (i : ℕ) (z : ℤ) → IsNearest (numerator (x i)) (denominator (x i)) z → z ≡ roundedAll x i
+  door-rounding-unique i z = reading-unique (x i) z
+
+  -- A finite reading is that whole number where it is inside the limits, and otherwise outside with the float as given; any other is not finite.
+  pub door-step : (i : ℕ) → stepAt t x i ≡ cond (finite (x i)) (cond (inside t (roundedAll x) i) (Whole (roundedAll x i)) (Outside (x i))) NotFinite
+  door-step i = step-is (x i) (lowest t i) (highest t i)
+
+  -- ════ The number
+  -- The refusals, in their order: the table's length, limits and weights, then over all five a step that is not finite, then one that is outside.
+  pub door-refusals : doorNumber cumulus t x
+      ≡ first
+      ((wrongTable when not (eqb (length t) (tableLength cumulus)))
+      ∷ (badLimits when not (good cumulus t))
+      ∷ (tooHeavy when not (light cumulus t))
+      ∷ (listed (cumulus .variables) (λ i. numberOf i (stepAt t x i) when isNotFinite (stepAt t x i)) ++ listed (cumulus .variables) (λ i. numberOf i (stepAt t x i) when isOutside (stepAt t x i))))
+  unfolding doorNumber
+  door-refusals = refl
+
+  -- The same told of the floats: 21 to 25 for one that is not finite, 11 to 15 for one that is outside when rounded.
+  pub door-refusals-of-floats : doorNumber cumulus t x
+      ≡ first
+      ((wrongTable when not (eqb (length t) (tableLength cumulus)))
+      ∷ (badLimits when not (good cumulus t))
+      ∷ (tooHeavy when not (light cumulus t))
+      ∷ (listed (cumulus .variables) (λ i. notFinite i when not (finite (x i))) ++ listed (cumulus .variables) (λ i. outside i when not (inside t (roundedAll x) i))))
+  door-refusals-of-floats = number-told t x
+
+  -- Five finite readings are answered as the whole-number read of the rounded readings is: the number,
+  pub door-number-of-rounded : ((i : ℕ) → i < cumulus .variables → finite (x i) ≡ true) → doorNumber cumulus t x ≡ readNumber cumulus t (roundedAll x) (listed (cumulus .blocks) (λ b. pos 0))
+  door-number-of-rounded = number-read t x
+
+  -- ════ The six floats
+  -- and each of the six, made a float and divided once.
+  pub door-values-of-rounded : ((i : ℕ) → i < cumulus .variables → finite (x i) ≡ true) → (b : ℕ) → b < cumulus .blocks
+      → doorValue cumulus t x b ≡ floatOf (getD (readOutput cumulus t (roundedAll x) (listed (cumulus .blocks) (λ b. pos 0))) b (pos 0))
+  door-values-of-rounded = value-read t x
+
+  -- The six are positive zero on a refusal.
+  pub door-zero-on-refusal : (doorNumber cumulus t x ≡ 0 → ⊥) → (b : ℕ) → doorValue cumulus t x b ≡ positiveZero
+  door-zero-on-refusal = zero-on-refusal t x
+
+  -- ════ The reading handed back
+  -- With 11 to 15 the step of that variable is outside, and what it carries, the float as given, is handed back.
+  pub door-hands-back-outside : (i : ℕ) → i < cumulus .variables → doorNumber cumulus t x ≡ outside i → (stepAt t x i ≡ Outside (x i)) × (doorReading cumulus t x ≡ handedBack (stepAt t x i))
+  door-hands-back-outside = reading-step t x
+
+  -- With every other number, 0 included, that place is positive zero.
+  pub door-hands-back-nothing-else : ((i : ℕ) → i < cumulus .variables → doorNumber cumulus t x ≡ outside i → ⊥) → doorReading cumulus t x ≡ positiveZero
+  door-hands-back-nothing-else = reading-elsewhere t x
+
+  -- None of the seven floats is a NaN: a NaN stands for many patterns of bits in the kit's model, any other float for one, so the answer is known to the bit.
+  pub door-never-nan : (isNan (doorReading cumulus t x) ≡ false) × ((b : ℕ) → isNan (doorValue cumulus t x b) ≡ false)
+  door-never-nan = (reading-number t x, value-number t x)
+
+-- A zero gives positive zero.
+pub door-zero-is-positive : floatOf (pos 0) ≡ positiveZero
+door-zero-is-positive = zero-positive

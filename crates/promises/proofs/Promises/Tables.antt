@@ -1,0 +1,127 @@
+-- The published table, and what every table answers at a whole-number state.
+use mathlib.Core.Path.{_≡_, refl, sym, _∙_, ap}
+use mathlib.Core.Logic.{_↔_}
+use mathlib.Core.Bool.{true, false, not}
+use mathlib.Core.List.{List, map}
+use Prim.Native.Nat.{ℕ, _-_, _≤_, _<_}
+use native.Mathlib.Decide.{ℕ-discrete}
+use native.Mathlib.Omega.{arith}
+use borrow.Author.Tests.{not-true, not-false}
+use lib.IntN.{ℤ, pos, negsuc}
+use lib.ListN.{length, getD}
+use lib.Signed.{leZ, _≤ℤ_}
+use Rattle.polynomials.specs.Groups.{totalWeight}
+use Rattle.polynomials.specs.Limits.{cap}
+use Rattle.layout.specs.Shape.{Shape, limitsLength, blockLength, tableLength, cumulus}
+use Rattle.layout.specs.Limits.{lowest, highest}
+use Rattle.layout.specs.Blocks.{Piece, coefficient}
+use Rattle.layout.specs.Sound.{reach, light, SoundTable}
+use Rattle.layout.specs.Refusals.{_when_, done, wrongOutput, outside}
+use Rattle.layout.specs.Reading.{inside, values, readNumber, readOutput}
+use Rattle.layout.specs.Accepted.{ReadAccepted}
+use Rattle.layout.proofs.Sizes.{block-size, table-size}
+use Rattle.layout.proofs.Tests.{&&-left, &&-right, &&-both, leZ-fact, fact-leZ}
+use Rattle.layout.proofs.Weights.{withinCap-fact, fact-withinCap}
+use Rattle.layout.proofs.Heavy.{smallest-heavy}
+use Rattle.layout.proofs.Refused.{read-given, read-kept, read-sound, read-done}
+use Rattle.layout.proofs.Accepted.{read-told, sound-limits, sound-weights}
+use Rattle.cumulus.specs.Model.{coefficients, modelValue, scale}
+use Rattle.cumulus.specs.Envelope.{Envelope}
+use Rattle.cumulus.specs.Stored.{Multiple, degreeAt}
+use Rattle.cumulus.specs.Published.{published, publishNumber, publishOutput}
+use Rattle.cumulus.specs.Checked.{asked, checked}
+use Rattle.cumulus.proofs.Answers.{fitting, other}
+use Rattle.cumulus.proofs.Length.{published-length}
+use Rattle.cumulus.proofs.Envelope.{published-good, published-light, read-inside}
+use Rattle.cumulus.proofs.Model.{read-model}
+use Rattle.cumulus.proofs.Scaling.{scaling}
+use Rattle.cumulus.proofs.Checked.{all-checked}
+use Rattle.door.proofs.Firsts.{first-exactly}
+
+-- ════ Layout
+-- A table has 311 numbers: 11 limits, and six blocks of 50.
+pub table-numbers : (tableLength cumulus ≡ 311) × (limitsLength cumulus ≡ 11) × (cumulus .blocks ≡ 6) × (blockLength cumulus ≡ 50)
+table-numbers = (table-size, refl, refl, block-size)
+
+-- ════ Publishing
+-- With room for a table: 0, and the published table.
+pub publish-publishes : (out : List ℤ) → length out ≡ tableLength cumulus → (publishNumber out ≡ done) × (publishOutput out ≡ published)
+publish-publishes out e = fitting out (e ∙ table-size)
+
+-- With room for more or fewer numbers: 2, and nothing is written.
+pub publish-refuses : (out : List ℤ) → (length out ≡ tableLength cumulus → ⊥) → (publishNumber out ≡ wrongOutput) × (publishOutput out ≡ out)
+publish-refuses out h = other out (λ e. h (e ∙ sym table-size))
+
+-- The published table has a table's length and is sound: every promise about sound tables is about it too.
+pub published-sound : SoundTable cumulus published
+published-sound = record { long = published-length; is-sound = &&-both published-good published-light }
+
+-- Every stored number of degree n is a multiple of 1000⁴⁻ⁿ.
+pub published-scaling : (k : ℕ) → limitsLength cumulus ≤ k → k < tableLength cumulus → Multiple (scale (degreeAt cumulus (k - limitsLength cumulus))) (getD published k (pos 0))
+published-scaling = scaling
+
+-- ════ Sound tables
+-- No weight of a light table passes the cap: over every block and piece, at the reaches of the table's own limits.
+pub light-rule : (S : Shape) (t : List ℤ) → (light S t ≡ true) ↔ ((b : ℕ) → b < S .blocks → (p : Piece) → totalWeight (coefficient S t b p) (reach t p) ≤ cap)
+light-rule S t = (withinCap-fact S t (reach t), fact-withinCap S t (reach t))
+
+-- The smallest 64-bit number is too heavy in any place from 11 on.
+pub smallest-too-heavy : (t : List ℤ) (k : ℕ) → limitsLength cumulus ≤ k → k < tableLength cumulus → getD t k (pos 0) ≡ negsuc 9_223_372_036_854_775_807 → light cumulus t ≡ false
+smallest-too-heavy t k h l = smallest-heavy t k h (omega (arith, table-size))
+
+-- ════ Reading the published table
+-- Inside the envelope it answers the six printed polynomials exactly, in whole units of 10⁻¹⁷.
+pub published-answers-the-print : (x : ℕ → ℤ) (out : List ℤ) → length out ≡ cumulus .blocks → Envelope x
+    → (readNumber cumulus published x out ≡ done) × (readOutput cumulus published x out ≡ map (λ C. modelValue C x) coefficients)
+published-answers-the-print x = read-model x
+
+-- A reading is refused exactly when it is outside.
+pub published-refuses-the-outside : (x : ℕ → ℤ) (out : List ℤ) → length out ≡ cumulus .blocks → (readNumber cumulus published x out ≡ done) ↔ Envelope x
+published-refuses-the-outside x out = read-inside x out
+
+-- ════ Reading any table
+module _ (S : Shape) (t : List ℤ) (x : ℕ → ℤ) where
+  -- A reading is inside where it is between its variable's limits, ends included.
+  pub inside-rule : (i : ℕ) → (inside t x i ≡ true) ↔ ((lowest t i ≤ℤ x i) × (x i ≤ℤ highest t i))
+  inside-rule i = (
+    λ e. (leZ-fact (&&-left (leZ (lowest t i) (x i)) (leZ (x i) (highest t i)) e), leZ-fact (&&-right (leZ (lowest t i) (x i)) (leZ (x i) (highest t i)) e)),
+    λ h. &&-both (fact-leZ (h .0)) (fact-leZ (h .1)),
+  )
+
+  module _ (out : List ℤ) where
+    -- A sound table, with room, is read at every reading inside its limits by the same sum over its own numbers,
+    pub sound-answers-its-sum : SoundTable S t → length out ≡ S .blocks → ((i : ℕ) → i < S .variables → inside t x i ≡ true)
+        → (readNumber S t x out ≡ done) × (readOutput S t x out ≡ values S t x)
+    sound-answers-its-sum w e h =
+        let d = read-done S t x out (w .long) e (sound-limits w) (sound-weights w) h in
+        (d, read-given S t x out d)
+
+    -- and nothing else is read.
+    pub only-sound-is-read : readNumber S t x out ≡ done → ReadAccepted S t x out
+    only-sound-is-read = read-told S t x out
+
+    -- A sound table, with room, gives 11 to 15 exactly for the first of the readings that is outside.
+    pub first-outside-is-named : SoundTable S t → length out ≡ S .blocks → (i : ℕ) → i < S .variables
+        → (readNumber S t x out ≡ outside i) ↔ (((k : ℕ) → k < i → inside t x k ≡ true) × (inside t x i ≡ false))
+    first-outside-is-named w e i h =
+        let n = read-sound S t x out (w .long) e (sound-limits w) (sound-weights w) in
+        let q = first-exactly (λ k. outside k when not (inside t x k)) (S .variables) i h (omega arith) (λ k b d. omega arith) in (
+          λ d. let g = q .0 (sym n ∙ d) in ((λ k b. not-false (inside t x k) (g .0 k b)), not-true (inside t x i) (g .1)),
+          λ g. n ∙ q .1 ((λ k b. ap not (g .0 k b)), ap not (g .1)),
+        )
+
+    -- A refusal writes nothing into the lent space.
+    pub refused-read-writes-nothing : 0 < readNumber S t x out → readOutput S t x out ≡ out
+    refused-read-writes-nothing h = read-kept S t x out refl h
+
+pub refused-publish-writes-nothing : (out : List ℤ) → 0 < publishNumber out → publishOutput out ≡ out
+refused-publish-writes-nothing out h = go (ℕ-discrete (length out) (tableLength cumulus))
+  where
+    go : Dec (length out ≡ tableLength cumulus) → publishOutput out ≡ out
+    go (yes e) = absurd (omega (arith, publish-publishes out e .0))
+    go (no n) = publish-refuses out n .1
+
+-- ════ Checked values
+-- Those that are marked, 1 to 10, over one list.
+pub checked-values : map (λ c. asked (c .question)) checked ≡ map (λ c. c .answer) checked
+checked-values = all-checked
