@@ -2,8 +2,7 @@
 use mathlib.Core.Path.{_≡_, refl, sym, _∙_, ap, ap₂}
 use mathlib.Core.List.{List, [], _∷_, _++_, append-assoc}
 use Prim.Native.Nat.{ℕ, _<_, _+_}
-use Prim.Native.String.{String}
-use lib.IntN.{ℤ, pos, pow, one}
+use lib.IntN.{ℤ, pos, negℤ, pow, one}
 use lib.ListN.{length, take, drop}
 use lib.Seq.{take-at}
 use Rattle.polynomials.specs.Sum.{sum, listed}
@@ -57,19 +56,20 @@ readings-are-read alpha beta xi eta zeta = refl
 pub refused-line-has-zeros : (state : List ℤ) → 0 < readNumber cumulus published (readings state) zeros → readOutput cumulus published (readings state) zeros ≡ zeros
 refused-line-has-zeros state = read-kept cumulus published (readings state) zeros refl
 
--- To a malformed line: 31 and six zeros. An empty line is malformed.
+-- To a malformed line: 31 and six zeros.
 pub malformed-line : lineAnswer published Malformed ≡ ascii "31 0 0 0 0 0 0\n"
 unfolding lineAnswer decimal
 malformed-line = refl
 
-pub empty-line-is-malformed : parse [] ≡ Malformed
-unfolding parse
-empty-line-is-malformed = refl
+-- An empty line is malformed.
+pub empty-line : (rest : List ℕ) → trimcard (10 ∷ rest) ≡ ascii "31 0 0 0 0 0 0\n" ++ trimcard rest
+unfolding program lineAnswer parse decimal
+empty-line rest = refl
 
 -- -0 and leading zeros are allowed.
-pub zeros-are-allowed : parse (ascii "-0 00 -000 0007 -0012") ≡ parse (ascii "0 0 0 7 -12")
+pub zeros-in-front : parse (ascii "-0 00 -000 0007 -0012") ≡ Readings (pos 0) (pos 0) (pos 0) (pos 7) (negℤ (pos 12))
 unfolding parse
-zeros-are-allowed = refl
+zeros-in-front = refl
 
 -- The whole output line of the requirement.
 pub printed-line : trimcard (ascii "0 0 0 0 0\n")

@@ -1,5 +1,5 @@
 -- A datum moved: which moves are accepted, and what the moved table answers.
-use mathlib.Core.Path.{_≡_, refl, sym, _∙_, ap}
+use mathlib.Core.Path.{_≡_, refl, sym, _∙_, ap, subst}
 use mathlib.Core.Logic.{_↔_, _⊎_}
 use mathlib.Core.Bool.{true, false}
 use mathlib.Core.List.{List}
@@ -12,19 +12,18 @@ use Rattle.polynomials.specs.Limits.{cap}
 use Rattle.layout.specs.Shape.{Shape, WellFormed, limitsLength, tableLength, cumulus}
 use Rattle.layout.specs.Limits.{allInRange}
 use Rattle.layout.specs.Blocks.{Piece, coefficient}
-use Rattle.layout.specs.Sound.{sound, SoundTable}
+use Rattle.layout.specs.Sound.{SoundTable}
 use Rattle.layout.specs.Refusals.{done, limitPast, moveTooHeavy}
 use Rattle.layout.specs.Reading.{readings, readNumber, readOutput}
 use Rattle.layout.specs.Moving.{movedLimit, movedLimits, movedTable, movedState, moveReach, moveLight, moveNumber, moveOutput}
 use Rattle.layout.specs.Accepted.{MoveAccepted}
 use Rattle.layout.proofs.Sizes.{table-size}
-use Rattle.layout.proofs.Tests.{&&-both}
 use Rattle.layout.proofs.LimitLaws.{good-facts, range-within, within-range}
-use Rattle.layout.proofs.Weights.{withinCap-fact, fact-withinCap, cumulus-formed}
-use Rattle.layout.proofs.Moved.{length-movedTable, getD-movedLimits, movedTable-twice, movedTable-nil, movedTable-back, movedTable-swap}
-use Rattle.layout.proofs.SoundMoved.{moved-good, moved-light, still-range, still-light}
+use Rattle.layout.proofs.Weights.{withinCap-fact, fact-withinCap, cumulus-variables}
+use Rattle.layout.proofs.Moved.{getD-movedLimits, movedTable-twice, movedTable-nil, movedTable-back, movedTable-swap}
+use Rattle.layout.proofs.SoundMoved.{moved-sound, still-range, still-light}
 use Rattle.layout.proofs.ReadingMoved.{readings-moved, readNumber-moved, readOutput-moved}
-use Rattle.layout.proofs.Refused.{move-given, move-kept, move-done}
+use Rattle.layout.proofs.Refused.{move-given, move-kept}
 use Rattle.layout.proofs.Accepted.{move-told, sound-limits, sound-weights, done-exactly, limit-past-exactly, too-heavy-exactly, no-other}
 use Rattle.cumulus.specs.Envelope.{farthestMove}
 use Rattle.cumulus.specs.Published.{published}
@@ -32,7 +31,7 @@ use Rattle.cumulus.proofs.Moves.{move-accepted}
 
 -- What some of these ask of a shape, that of a Cumulus One table has.
 pub cumulus-well-formed : WellFormed cumulus
-cumulus-well-formed = cumulus-formed
+cumulus-well-formed = record { has-variable = omega arith; in-variables = cumulus-variables }
 
 module _ (S : Shape) where
   -- ════ What a move leaves
@@ -86,19 +85,12 @@ module _ (S : Shape) where
     pub move-by-nothing : (t : List ℤ) (i : ℕ) (room : List ℤ) → SoundTable S t → length room ≡ tableLength S → i < S .variables
         → (moveNumber S t i (pos 0) room ≡ done) × (moveOutput S t i (pos 0) room ≡ t)
     move-by-nothing t i room a e h =
-        let r = still-range S i t (good-facts S t (sound-limits a) .range) in
-        let d = move-done S t i (pos 0) room (a .long) e h (sound-limits a) (sound-weights a) r (still-light S (w .groups) i t (sound-weights a)) in
+        let d = move-accepted-exactly t i (pos 0) room a e h .1 (still-range S i t (good-facts S t (sound-limits a) .range), still-light S (w .in-variables) i t (sound-weights a)) in
         (d, accepted-is-moved t i (pos 0) room d ∙ movedTable-nil S t (a .long) i)
 
     -- An accepted move leaves a sound table, of a table's length: the next move and the next read take it as it is.
     pub moved-stays-sound : (t : List ℤ) (i : ℕ) (s : ℤ) (room : List ℤ) → moveNumber S t i s room ≡ done → SoundTable S (moveOutput S t i s room)
-    moved-stays-sound t i s room d =
-        let a = move-told S t i s room d in
-        let e = accepted-is-moved t i s room d in
-        record {
-          long = ap length e ∙ length-movedTable S i s t (a .table);
-          is-sound = ap (λ u. sound S u) e ∙ &&-both (moved-good S i s t (w .variable) (a .moved-limits) (a .limits)) (moved-light S (w .groups) i t s (a .table) (a .moved-weights));
-        }
+    moved-stays-sound t i s room d = subst (SoundTable S) (sym (accepted-is-moved t i s room d)) (moved-sound w (move-told S t i s room d))
 
     -- ════ What the moved table answers
     -- It answers at a reading less s as the old one at that reading: the number, refusals included, and the values;
@@ -106,10 +98,8 @@ module _ (S : Shape) where
         → (readNumber S (moveOutput S t i s room) (less i s x) out ≡ readNumber S t x out) × (readOutput S (moveOutput S t i s room) (less i s x) out ≡ readOutput S t x out)
     moved-answers-as-before t i s room d x out =
         let a = move-told S t i s room d in
-        let e = accepted-is-moved t i s room d in (
-          ap (λ u. readNumber S u (less i s x) out) e ∙ readNumber-moved S i s t x (w .variable) (a .table) (w .groups) (a .limits) (a .weights) (a .moved-limits) (a .moved-weights) out,
-          ap (λ u. readOutput S u (less i s x) out) e ∙ readOutput-moved S i s t x (w .variable) (a .table) (w .groups) (a .limits) (a .weights) (a .moved-limits) (a .moved-weights) out,
-        )
+        let e = accepted-is-moved t i s room d in
+        (ap (λ u. readNumber S u (less i s x) out) e ∙ readNumber-moved w a x out, ap (λ u. readOutput S u (less i s x) out) e ∙ readOutput-moved w a x out)
 
     -- said of the numbers of a state, as `read` takes them.
     pub moved-answers-each-state : (t : List ℤ) (i : ℕ) (s : ℤ) (room : List ℤ) → moveNumber S t i s room ≡ done → (state out : List ℤ) → length state ≡ S .variables

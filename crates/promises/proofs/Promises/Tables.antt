@@ -3,24 +3,25 @@ use mathlib.Core.Path.{_≡_, refl, sym, _∙_, ap}
 use mathlib.Core.Logic.{_↔_}
 use mathlib.Core.Bool.{true, false, not}
 use mathlib.Core.List.{List, map}
-use Prim.Native.Nat.{ℕ, _-_, _≤_, _<_}
+use Prim.Native.Nat.{ℕ, _+_, _-_, _*_, _≤_, _<_}
 use native.Mathlib.Decide.{ℕ-discrete}
 use native.Mathlib.Omega.{arith}
 use borrow.Author.Tests.{not-true, not-false}
-use lib.IntN.{ℤ, pos, negsuc}
+use lib.IntN.{ℤ, pos, negsuc, natAbs}
 use lib.ListN.{length, getD}
-use lib.Signed.{leZ, _≤ℤ_}
+use lib.Signed.{leZ, _≤ℤ_, _<ℤ_}
 use Rattle.polynomials.specs.Groups.{totalWeight}
 use Rattle.polynomials.specs.Limits.{cap}
-use Rattle.layout.specs.Shape.{Shape, limitsLength, blockLength, tableLength, cumulus}
-use Rattle.layout.specs.Limits.{lowest, highest}
+use Rattle.layout.specs.Shape.{Shape, limitsLength, blockLength, blockStart, tableLength, cumulus}
+use Rattle.layout.specs.Limits.{lowest, highest, cut, good}
 use Rattle.layout.specs.Blocks.{Piece, coefficient}
 use Rattle.layout.specs.Sound.{reach, light, SoundTable}
 use Rattle.layout.specs.Refusals.{_when_, done, wrongOutput, outside}
 use Rattle.layout.specs.Reading.{inside, values, readNumber, readOutput}
 use Rattle.layout.specs.Accepted.{ReadAccepted}
-use Rattle.layout.proofs.Sizes.{block-size, table-size}
+use Rattle.layout.proofs.Sizes.{block-size, start-size, table-size}
 use Rattle.layout.proofs.Tests.{&&-left, &&-right, &&-both, leZ-fact, fact-leZ}
+use Rattle.layout.proofs.LimitLaws.{good-facts, facts-good, limit-within, within-range}
 use Rattle.layout.proofs.Weights.{withinCap-fact, fact-withinCap}
 use Rattle.layout.proofs.Heavy.{smallest-heavy}
 use Rattle.layout.proofs.Refused.{read-given, read-kept, read-sound, read-done}
@@ -43,6 +44,10 @@ use Rattle.door.proofs.Firsts.{first-exactly}
 pub table-numbers : (tableLength cumulus ≡ 311) × (limitsLength cumulus ≡ 11) × (cumulus .blocks ≡ 6) × (blockLength cumulus ≡ 50)
 table-numbers = (table-size, refl, refl, block-size)
 
+-- The blocks start at 11, 61, 111 and so on.
+pub block-starts : (b : ℕ) → blockStart cumulus b ≡ 11 + 50 * b
+block-starts = start-size
+
 -- ════ Publishing
 -- With room for a table: 0, and the published table.
 pub publish-publishes : (out : List ℤ) → length out ≡ tableLength cumulus → (publishNumber out ≡ done) × (publishOutput out ≡ published)
@@ -61,6 +66,14 @@ pub published-scaling : (k : ℕ) → limitsLength cumulus ≤ k → k < tableLe
 published-scaling = scaling
 
 -- ════ Sound tables
+-- Good limits: each lies in -2000..2000, alpha's lowest <= cut < highest, and each lowest is at most its highest.
+pub good-rule : (S : Shape) (t : List ℤ)
+    → (good S t ≡ true) ↔ (((k : ℕ) → k < limitsLength S → natAbs (getD t k (pos 0)) ≤ 2000) × (lowest t 0 ≤ℤ cut t) × (cut t <ℤ highest t 0) × ((i : ℕ) → i < S .variables → lowest t i ≤ℤ highest t i))
+good-rule S t = (
+  λ e. let g = good-facts S t e in (limit-within S t g, g .lowest-cut, g .cut-highest, g .ordered),
+  λ h. facts-good S t (record { range = within-range S t (h .0); lowest-cut = h .1; cut-highest = h .2; ordered = h .3 }),
+)
+
 -- No weight of a light table passes the cap: over every block and piece, at the reaches of the table's own limits.
 pub light-rule : (S : Shape) (t : List ℤ) → (light S t ≡ true) ↔ ((b : ℕ) → b < S .blocks → (p : Piece) → totalWeight (coefficient S t b p) (reach t p) ≤ cap)
 light-rule S t = (withinCap-fact S t (reach t), fact-withinCap S t (reach t))
@@ -80,39 +93,38 @@ pub published-refuses-the-outside : (x : ℕ → ℤ) (out : List ℤ) → lengt
 published-refuses-the-outside x out = read-inside x out
 
 -- ════ Reading any table
-module _ (S : Shape) (t : List ℤ) (x : ℕ → ℤ) where
-  -- A reading is inside where it is between its variable's limits, ends included.
-  pub inside-rule : (i : ℕ) → (inside t x i ≡ true) ↔ ((lowest t i ≤ℤ x i) × (x i ≤ℤ highest t i))
-  inside-rule i = (
-    λ e. (leZ-fact (&&-left (leZ (lowest t i) (x i)) (leZ (x i) (highest t i)) e), leZ-fact (&&-right (leZ (lowest t i) (x i)) (leZ (x i) (highest t i)) e)),
-    λ h. &&-both (fact-leZ (h .0)) (fact-leZ (h .1)),
-  )
+-- A reading is inside where it is between its variable's limits, ends included.
+pub inside-rule : (t : List ℤ) (x : ℕ → ℤ) (i : ℕ) → (inside t x i ≡ true) ↔ ((lowest t i ≤ℤ x i) × (x i ≤ℤ highest t i))
+inside-rule t x i = (
+  λ e. (leZ-fact (&&-left (leZ (lowest t i) (x i)) (leZ (x i) (highest t i)) e), leZ-fact (&&-right (leZ (lowest t i) (x i)) (leZ (x i) (highest t i)) e)),
+  λ h. &&-both (fact-leZ (h .0)) (fact-leZ (h .1)),
+)
 
-  module _ (out : List ℤ) where
-    -- A sound table, with room, is read at every reading inside its limits by the same sum over its own numbers,
-    pub sound-answers-its-sum : SoundTable S t → length out ≡ S .blocks → ((i : ℕ) → i < S .variables → inside t x i ≡ true)
-        → (readNumber S t x out ≡ done) × (readOutput S t x out ≡ values S t x)
-    sound-answers-its-sum w e h =
-        let d = read-done S t x out (w .long) e (sound-limits w) (sound-weights w) h in
-        (d, read-given S t x out d)
+module _ (S : Shape) (t : List ℤ) (x : ℕ → ℤ) (out : List ℤ) where
+  -- A sound table, with room, is read at every reading inside its limits by the same sum over its own numbers,
+  pub sound-answers-its-sum : SoundTable S t → length out ≡ S .blocks → ((i : ℕ) → i < S .variables → inside t x i ≡ true)
+      → (readNumber S t x out ≡ done) × (readOutput S t x out ≡ values S t x)
+  sound-answers-its-sum w e h =
+      let d = read-done S t x out (w .long) e (sound-limits w) (sound-weights w) h in
+      (d, read-given S t x out d)
 
-    -- and nothing else is read.
-    pub only-sound-is-read : readNumber S t x out ≡ done → ReadAccepted S t x out
-    only-sound-is-read = read-told S t x out
+  -- and nothing else is read.
+  pub only-sound-is-read : readNumber S t x out ≡ done → ReadAccepted S t x out
+  only-sound-is-read = read-told S t x out
 
-    -- A sound table, with room, gives 11 to 15 exactly for the first of the readings that is outside.
-    pub first-outside-is-named : SoundTable S t → length out ≡ S .blocks → (i : ℕ) → i < S .variables
-        → (readNumber S t x out ≡ outside i) ↔ (((k : ℕ) → k < i → inside t x k ≡ true) × (inside t x i ≡ false))
-    first-outside-is-named w e i h =
-        let n = read-sound S t x out (w .long) e (sound-limits w) (sound-weights w) in
-        let q = first-exactly (λ k. outside k when not (inside t x k)) (S .variables) i h (omega arith) (λ k b d. omega arith) in (
-          λ d. let g = q .0 (sym n ∙ d) in ((λ k b. not-false (inside t x k) (g .0 k b)), not-true (inside t x i) (g .1)),
-          λ g. n ∙ q .1 ((λ k b. ap not (g .0 k b)), ap not (g .1)),
-        )
+  -- A sound table, with room, gives 11 to 15 exactly for the first of the readings that is outside.
+  pub first-outside-is-named : SoundTable S t → length out ≡ S .blocks → (i : ℕ) → i < S .variables
+      → (readNumber S t x out ≡ outside i) ↔ (((k : ℕ) → k < i → inside t x k ≡ true) × (inside t x i ≡ false))
+  first-outside-is-named w e i h =
+      let n = read-sound S t x out (w .long) e (sound-limits w) (sound-weights w) in
+      let q = first-exactly (λ k. outside k when not (inside t x k)) (S .variables) i h (omega arith) (λ k b d. omega arith) in (
+        λ d. let g = q .0 (sym n ∙ d) in ((λ k b. not-false (inside t x k) (g .0 k b)), not-true (inside t x i) (g .1)),
+        λ g. n ∙ q .1 ((λ k b. ap not (g .0 k b)), ap not (g .1)),
+      )
 
-    -- A refusal writes nothing into the lent space.
-    pub refused-read-writes-nothing : 0 < readNumber S t x out → readOutput S t x out ≡ out
-    refused-read-writes-nothing h = read-kept S t x out refl h
+  -- A refusal writes nothing into the lent space.
+  pub refused-read-writes-nothing : 0 < readNumber S t x out → readOutput S t x out ≡ out
+  refused-read-writes-nothing h = read-kept S t x out refl h
 
 pub refused-publish-writes-nothing : (out : List ℤ) → 0 < publishNumber out → publishOutput out ≡ out
 refused-publish-writes-nothing out h = go (ℕ-discrete (length out) (tableLength cumulus))
