@@ -1,33 +1,22 @@
 -- The program trimcard, bytes in and bytes out: what it reads is `input`, and what it writes is `trimcard input`. `ascii` gives the bytes of a text.
-use mathlib.Core.Path.{_≡_, refl, sym, _∙_, ap, ap₂}
-use mathlib.Core.List.{List, [], _∷_, _++_, append-assoc}
-use Prim.Native.Nat.{ℕ, _<_, _+_}
-use lib.IntN.{ℤ, pos, negℤ, pow, one}
-use lib.ListN.{length, take, drop}
-use lib.Seq.{take-at}
-use Rattle.polynomials.specs.Sum.{sum, listed}
-use Rattle.polynomials.specs.Order.{powers, below}
-use Rattle.polynomials.specs.Group.{number, term, evaluated, given}
-use Rattle.polynomials.specs.Groups.{total, totalWeight}
-use Rattle.layout.specs.Shape.{kindsLength, cumulus}
-use Rattle.layout.specs.Limits.{every, allInRange, good}
-use Rattle.layout.specs.Blocks.{groups, laidOut, chosen, coefficient}
-use Rattle.layout.specs.Sound.{withinCap}
-use Rattle.layout.specs.Refusals.{first}
-use Rattle.layout.specs.Reading.{readings, values, readNumber, readOutput}
+use mathlib.Core.Path.{_≡_, refl}
+use mathlib.Core.List.{List, [], _∷_, _++_}
+use Prim.Native.Nat.{ℕ, _<_}
+use lib.IntN.{ℤ, pos, negℤ}
+use Rattle.layout.specs.Shape.{cumulus}
+use Rattle.layout.specs.Reading.{readings, readNumber, readOutput}
 use Rattle.layout.proofs.Refused.{read-kept}
 use Rattle.cumulus.specs.Published.{published}
 use Rattle.lines.specs.Line.{parse}
 use Rattle.lines.specs.declared.Line.the-variants.{Readings, Malformed}
 use Rattle.printing.specs.Spell.{decimal}
 use Rattle.answers.specs.Answers.{zeros, numbered, lineAnswer, program, trimcard}
-use Rattle.answers.specs.Reading.{fresh, readingsAfter, answersOf, lastAnswer, Plain, Feeding}
-use Rattle.answers.specs.declared.Reading.{Reading}
-use Rattle.answers.specs.declared.Fed.{Fed}
-use Rattle.answers.proofs.Program.{readings-append, answers-append, whole}
+use Rattle.answers.specs.Reading.{fresh, Plain}
+use Rattle.answers.proofs.Controls.{at-zero}
 use Rattle.answers.proofs.EachLine.{line-first, line-last}
 use Rattle.promises.specs.Text.{ascii}
-use Rattle.promises.specs.Runs.{Run, at-end, call}
+use Rattle.promises.specs.Runs.{Run}
+use Rattle.promises.proofs.Runs.{run-writes-program}
 
 -- ════ Lines
 -- Empty input prints nothing.
@@ -74,25 +63,9 @@ zeros-in-front = refl
 -- The whole output line of the requirement.
 pub printed-line : trimcard (ascii "0 0 0 0 0\n")
     ≡ ascii "0 -2566000000000000 5402000000000000 -34750000000000000 4875000000000000 6214000000000000 4748000000000000\n"
-unfolding program lineAnswer parse decimal published listed sum powers below number term evaluated given total totalWeight kindsLength every allInRange good groups laidOut chosen coefficient withinCap first values readNumber readOutput pow one
-printed-line = refl
+printed-line = at-zero
 
 -- ════ However the input is cut
--- what one call of `feed` writes: the answers to the bytes that it took
-call-writes : (t : List ℤ) (r : Reading) (piece out out′ : List ℕ) (f : Fed) → Feeding t r piece out out′ f → take (f .put) out′ ≡ answersOf t r (take (f .taken) piece)
-call-writes t r piece out out′ f c =
-    let bytes = answersOf t r (take (f .taken) piece) in
-    ap₂ take (c .place) (c .output) ∙ take-at bytes (drop (0 + length bytes) out) (length bytes) refl
-
--- and what a run of calls does
-run-writes : (t : List ℤ) (r : Reading) (input bytes : List ℕ) → Run t r input bytes → bytes ≡ answersOf t r input ++ lastAnswer t (readingsAfter r input)
-run-writes t r input bytes (at-end s) = refl
-run-writes t r input bytes (call s piece out out′ f c rest more next) =
-    let took = take (f .taken) piece in
-    ap₂ _++_ (call-writes t r piece out out′ f c) (run-writes t (f .reading) rest more next ∙ ap (λ q. answersOf t q rest ++ lastAnswer t (readingsAfter q rest)) (c .reading))
-    ∙ sym (append-assoc (answersOf t r took) (answersOf t (readingsAfter r took) rest) (lastAnswer t (readingsAfter (readingsAfter r took) rest)))
-    ∙ ap₂ (λ xs q. xs ++ lastAnswer t q) (sym (answers-append t r took rest)) (sym (readings-append r took rest))
-
 -- However an input is cut into pieces, and whatever space is lent to each call, the calls together write what trimcard writes for it.
 pub cuts-do-not-matter : (input bytes : List ℕ) → Run published fresh input bytes → bytes ≡ trimcard input
-cuts-do-not-matter input bytes run = run-writes published fresh input bytes run ∙ whole published input
+cuts-do-not-matter input bytes = run-writes-program published input bytes

@@ -24,7 +24,7 @@ use Rattle.layout.proofs.Moved.{getD-movedLimits, movedTable-twice, movedTable-
 use Rattle.layout.proofs.SoundMoved.{moved-sound, still-range, still-light}
 use Rattle.layout.proofs.ReadingMoved.{readings-moved, readNumber-moved, readOutput-moved}
 use Rattle.layout.proofs.Refused.{move-given, move-kept}
-use Rattle.layout.proofs.Accepted.{move-told, sound-limits, sound-weights, done-exactly, limit-past-exactly, too-heavy-exactly, no-other}
+use Rattle.layout.proofs.Accepted.{move-told, sound-limits, sound-weights, move-done-exactly, move-limit-past-exactly, move-past-cap-exactly, move-no-other}
 use Rattle.cumulus.specs.Envelope.{farthestMove}
 use Rattle.cumulus.specs.Published.{published}
 use Rattle.cumulus.proofs.Moves.{move-accepted}
@@ -51,22 +51,22 @@ module _ (S : Shape) where
   -- A sound table's move, with room and in one of its variables, gives 0 exactly where every moved limit is in range and the weight rule is kept,
   pub move-accepted-exactly : (t : List ℤ) (i : ℕ) (s : ℤ) (out : List ℤ) → SoundTable S t → length out ≡ tableLength S → i < S .variables
       → (moveNumber S t i s out ≡ done) ↔ ((allInRange S (movedLimits S i s t) ≡ true) × (moveLight S i s t ≡ true))
-  move-accepted-exactly = done-exactly S
+  move-accepted-exactly = move-done-exactly S
 
   -- 6 exactly where a moved limit leaves its range,
   pub move-past-range-exactly : (t : List ℤ) (i : ℕ) (s : ℤ) (out : List ℤ) → SoundTable S t → length out ≡ tableLength S → i < S .variables
       → (moveNumber S t i s out ≡ limitPast) ↔ (allInRange S (movedLimits S i s t) ≡ false)
-  move-past-range-exactly = limit-past-exactly S
+  move-past-range-exactly = move-limit-past-exactly S
 
   -- 7 exactly where none does and the weight rule is broken,
   pub move-too-heavy-exactly : (t : List ℤ) (i : ℕ) (s : ℤ) (out : List ℤ) → SoundTable S t → length out ≡ tableLength S → i < S .variables
       → (moveNumber S t i s out ≡ moveTooHeavy) ↔ ((allInRange S (movedLimits S i s t) ≡ true) × (moveLight S i s t ≡ false))
-  move-too-heavy-exactly = too-heavy-exactly S
+  move-too-heavy-exactly = move-past-cap-exactly S
 
   -- and no other number.
   pub move-no-other-number : (t : List ℤ) (i : ℕ) (s : ℤ) (out : List ℤ) → SoundTable S t → length out ≡ tableLength S → i < S .variables
       → (moveNumber S t i s out ≡ done) ⊎ ((moveNumber S t i s out ≡ limitPast) ⊎ (moveNumber S t i s out ≡ moveTooHeavy))
-  move-no-other-number = no-other S
+  move-no-other-number = move-no-other S
 
   -- In range: each moved limit is in -2000..2000.
   pub range-rule : (t : List ℤ) (i : ℕ) (s : ℤ) → (allInRange S (movedLimits S i s t) ≡ true) ↔ ((k : ℕ) → k < limitsLength S → natAbs (movedLimit i s t k) ≤ 2000)

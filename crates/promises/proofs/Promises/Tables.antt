@@ -25,7 +25,7 @@ use Rattle.layout.proofs.LimitLaws.{good-facts, facts-good, limit-within, withi
 use Rattle.layout.proofs.Weights.{withinCap-fact, fact-withinCap}
 use Rattle.layout.proofs.Heavy.{smallest-heavy}
 use Rattle.layout.proofs.Refused.{read-given, read-kept, read-sound, read-done}
-use Rattle.layout.proofs.Accepted.{read-told, sound-limits, sound-weights}
+use Rattle.layout.proofs.Accepted.{read-told, sound-limits, sound-weights, same-exactly}
 use Rattle.cumulus.specs.Model.{coefficients, modelValue, scale}
 use Rattle.cumulus.specs.Envelope.{Envelope}
 use Rattle.cumulus.specs.Stored.{Multiple, degreeAt}
@@ -116,10 +116,10 @@ module _ (S : Shape) (t : List ℤ) (x : ℕ → ℤ) (out : List ℤ) where
   pub first-outside-is-named : SoundTable S t → length out ≡ S .blocks → (i : ℕ) → i < S .variables
       → (readNumber S t x out ≡ outside i) ↔ (((k : ℕ) → k < i → inside t x k ≡ true) × (inside t x i ≡ false))
   first-outside-is-named w e i h =
-      let n = read-sound S t x out (w .long) e (sound-limits w) (sound-weights w) in
-      let q = first-exactly (λ k. outside k when not (inside t x k)) (S .variables) i h (omega arith) (λ k b d. omega arith) in (
-        λ d. let g = q .0 (sym n ∙ d) in ((λ k b. not-false (inside t x k) (g .0 k b)), not-true (inside t x i) (g .1)),
-        λ g. n ∙ q .1 ((λ k b. ap not (g .0 k b)), ap not (g .1)),
+      let q = first-exactly (λ k. outside k when not (inside t x k)) (S .variables) i h (omega arith) (λ k b d. omega arith) in
+      same-exactly (read-sound S t x out (w .long) e (sound-limits w) (sound-weights w)) (
+        λ d. ((λ k b. not-false (inside t x k) (q .0 d .0 k b)), not-true (inside t x i) (q .0 d .1)),
+        λ g. q .1 ((λ k b. ap not (g .0 k b)), ap not (g .1)),
       )
 
   -- A refusal writes nothing into the lent space.
