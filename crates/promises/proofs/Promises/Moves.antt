@@ -48,25 +48,22 @@ module _ (S : Shape) where
   pub only-sound-is-moved : (t : List ℤ) (i : ℕ) (s : ℤ) (out : List ℤ) → moveNumber S t i s out ≡ done → MoveAccepted S t i s out
   only-sound-is-moved = move-told S
 
-  -- A sound table's move, with room and in one of its variables, gives 0 exactly where every moved limit is in range and the weight rule is kept,
-  pub move-accepted-exactly : (t : List ℤ) (i : ℕ) (s : ℤ) (out : List ℤ) → SoundTable S t → length out ≡ tableLength S → i < S .variables
-      → (moveNumber S t i s out ≡ done) ↔ ((allInRange S (movedLimits S i s t) ≡ true) × (moveLight S i s t ≡ true))
-  move-accepted-exactly = move-done-exactly S
+  module _ (t : List ℤ) (i : ℕ) (s : ℤ) (out : List ℤ) (w : SoundTable S t) (room : length out ≡ tableLength S) (known : i < S .variables) where
+    -- A sound table's move, with room and in one of its variables, gives 0 exactly where every moved limit is in range and the weight rule is kept,
+    pub move-accepted-exactly : (moveNumber S t i s out ≡ done) ↔ ((allInRange S (movedLimits S i s t) ≡ true) × (moveLight S i s t ≡ true))
+    move-accepted-exactly = move-done-exactly S t i s out w room known
 
-  -- 6 exactly where a moved limit leaves its range,
-  pub move-past-range-exactly : (t : List ℤ) (i : ℕ) (s : ℤ) (out : List ℤ) → SoundTable S t → length out ≡ tableLength S → i < S .variables
-      → (moveNumber S t i s out ≡ limitPast) ↔ (allInRange S (movedLimits S i s t) ≡ false)
-  move-past-range-exactly = move-limit-past-exactly S
+    -- 6 exactly where a moved limit leaves its range,
+    pub move-past-range-exactly : (moveNumber S t i s out ≡ limitPast) ↔ (allInRange S (movedLimits S i s t) ≡ false)
+    move-past-range-exactly = move-limit-past-exactly S t i s out w room known
 
-  -- 7 exactly where none does and the weight rule is broken,
-  pub move-too-heavy-exactly : (t : List ℤ) (i : ℕ) (s : ℤ) (out : List ℤ) → SoundTable S t → length out ≡ tableLength S → i < S .variables
-      → (moveNumber S t i s out ≡ moveTooHeavy) ↔ ((allInRange S (movedLimits S i s t) ≡ true) × (moveLight S i s t ≡ false))
-  move-too-heavy-exactly = move-past-cap-exactly S
+    -- 7 exactly where none does and the weight rule is broken,
+    pub move-too-heavy-exactly : (moveNumber S t i s out ≡ moveTooHeavy) ↔ ((allInRange S (movedLimits S i s t) ≡ true) × (moveLight S i s t ≡ false))
+    move-too-heavy-exactly = move-past-cap-exactly S t i s out w room known
 
-  -- and no other number.
-  pub move-no-other-number : (t : List ℤ) (i : ℕ) (s : ℤ) (out : List ℤ) → SoundTable S t → length out ≡ tableLength S → i < S .variables
-      → (moveNumber S t i s out ≡ done) ⊎ ((moveNumber S t i s out ≡ limitPast) ⊎ (moveNumber S t i s out ≡ moveTooHeavy))
-  move-no-other-number = move-no-other S
+    -- and no other number.
+    pub move-no-other-number : (moveNumber S t i s out ≡ done) ⊎ ((moveNumber S t i s out ≡ limitPast) ⊎ (moveNumber S t i s out ≡ moveTooHeavy))
+    move-no-other-number = move-no-other S t i s out w room known
 
   -- In range: each moved limit is in -2000..2000.
   pub range-rule : (t : List ℤ) (i : ℕ) (s : ℤ) → (allInRange S (movedLimits S i s t) ≡ true) ↔ ((k : ℕ) → k < limitsLength S → natAbs (movedLimit i s t k) ≤ 2000)

@@ -57,6 +57,14 @@ publish-publishes out e = fitting out (e ∙ table-size)
 pub publish-refuses : (out : List ℤ) → (length out ≡ tableLength cumulus → ⊥) → (publishNumber out ≡ wrongOutput) × (publishOutput out ≡ out)
 publish-refuses out h = other out (λ e. h (e ∙ sym table-size))
 
+-- A refusal writes nothing into the lent space.
+pub refused-publish-writes-nothing : (out : List ℤ) → 0 < publishNumber out → publishOutput out ≡ out
+refused-publish-writes-nothing out h = go (ℕ-discrete (length out) (tableLength cumulus))
+  where
+    go : Dec (length out ≡ tableLength cumulus) → publishOutput out ≡ out
+    go (yes e) = absurd (omega (arith, publish-publishes out e .0))
+    go (no n) = publish-refuses out n .1
+
 -- The published table has a table's length and is sound: every promise about sound tables is about it too.
 pub published-sound : SoundTable cumulus published
 published-sound = record { long = published-length; is-sound = &&-both published-good published-light }
@@ -125,13 +133,6 @@ module _ (S : Shape) (t : List ℤ) (x : ℕ → ℤ) (out : List ℤ) where
   -- A refusal writes nothing into the lent space.
   pub refused-read-writes-nothing : 0 < readNumber S t x out → readOutput S t x out ≡ out
   refused-read-writes-nothing h = read-kept S t x out refl h
-
-pub refused-publish-writes-nothing : (out : List ℤ) → 0 < publishNumber out → publishOutput out ≡ out
-refused-publish-writes-nothing out h = go (ℕ-discrete (length out) (tableLength cumulus))
-  where
-    go : Dec (length out ≡ tableLength cumulus) → publishOutput out ≡ out
-    go (yes e) = absurd (omega (arith, publish-publishes out e .0))
-    go (no n) = publish-refuses out n .1
 
 -- ════ Checked values
 -- Those that are marked, 1 to 10, over one list.
