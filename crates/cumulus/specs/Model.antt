@@ -4,9 +4,7 @@ use mathlib.Core.List.{List, [], _∷_}
 use Prim.Native.Nat.{ℕ, _+_, _-_, _^_}
 use lib.IntN.{ℤ, pos, _+ℤ_, _*ℤ_, pow}
 use lib.Signed.{leZ}
-use Rattle.polynomials.specs.Numbers.{ints}
-use Rattle.polynomials.specs.Sum.{sum}
-use Rattle.cumulus.specs.Notation.{Polynomial}
+use Rattle.cumulus.specs.Notation.{Monomial, Term, Polynomial, summed}
 use Rattle.cumulus.specs.Printed.{C-Xα-pre, C-Yα-pre, C-Zα-pre, C-lα-pre, C-mα-pre, C-nα-pre, C-Xη-pre, C-Yη-pre, C-Zη-pre, C-lη-pre, C-mη-pre, C-nη-pre, C-Xα-post, C-Yα-post, C-Zα-post, C-lα-post, C-mα-post, C-nα-post, C-Xη-post, C-Yη-post, C-Zη-post, C-lη-post, C-mη-post, C-nη-post, C-Xξ, C-Yξ, C-Zξ, C-lξ, C-mξ, C-nξ, C-Xζ, C-Yζ, C-Zζ, C-lζ, C-mζ, C-nζ}
 
 -- ════ the six coefficients
@@ -44,18 +42,27 @@ coefficients = C-X ∷ C-Y ∷ C-Z ∷ C-l ∷ C-m ∷ C-n ∷ []
 abbrev pub scale : ℕ → ℕ
 scale n = 1000 ^ (4 - n)
 
--- a polynomial of degree at most 4 at two readings: each number, scaled, times uᵖvᵠ, over p + q ≤ 4
-unfoldable pub at : Polynomial → ℤ → ℤ → ℤ
-at f u v = sum ints 5 (λ q. sum ints (5 - q) (λ p. f p q *ℤ pos (scale (p + q)) *ℤ pow u p *ℤ pow v q))
+abbrev pub totalDegree : Monomial → ℕ
+totalDegree a = a .alpha + a .beta + a .xi + a .eta + a .zeta
+
+abbrev pub scaled : Term → ℤ
+scaled t = t .number *ℤ pos (scale (totalDegree (t .monomial)))
 
 -- x has the readings of α, β, ξ, η and ζ, in this order, from 0 to 4
+abbrev pub monomialAt : Monomial → (ℕ → ℤ) → ℤ
+monomialAt a x = pow (x 0) (a .alpha) *ℤ pow (x 1) (a .beta) *ℤ pow (x 2) (a .xi) *ℤ pow (x 3) (a .eta) *ℤ pow (x 4) (a .zeta)
+
+-- the sum of the terms: each number, scaled, times the powers of the readings
+unfoldable pub at : Polynomial → (ℕ → ℤ) → ℤ
+at f x = summed (λ t. scaled t *ℤ monomialAt (t .monomial) x) f
+
 -- (3)
 abbrev pub pre : Coefficient → (ℕ → ℤ) → ℤ
-pre C x = at (C .α-pre) (x 0) (x 3) +ℤ at (C .ξ) (x 1) (x 2) +ℤ at (C .η-pre) (x 0) (x 3) +ℤ at (C .ζ) (x 1) (x 4)
+pre C x = at (C .α-pre) x +ℤ at (C .ξ) x +ℤ at (C .η-pre) x +ℤ at (C .ζ) x
 
 -- (4)
 abbrev pub post : Coefficient → (ℕ → ℤ) → ℤ
-post C x = at (C .α-post) (x 0) (x 3) +ℤ at (C .ξ) (x 1) (x 2) +ℤ at (C .η-post) (x 0) (x 3) +ℤ at (C .ζ) (x 1) (x 4)
+post C x = at (C .α-post) x +ℤ at (C .ξ) x +ℤ at (C .η-post) x +ℤ at (C .ζ) x
 
 -- (1), with the boundary of (2) between 313 and 314 milliradians
 abbrev pub modelValue : Coefficient → (ℕ → ℤ) → ℤ
