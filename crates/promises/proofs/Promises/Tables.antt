@@ -8,7 +8,7 @@ use native.Mathlib.Decide.{ℕ-discrete}
 use native.Mathlib.Omega.{arith}
 use borrow.Author.Tests.{not-true, not-false}
 use lib.IntN.{ℤ, pos, negsuc, natAbs}
-use lib.ListN.{length, getD}
+use lib.ListN.{length, getD, replicate}
 use lib.Signed.{leZ, _≤ℤ_, _<ℤ_}
 use Rattle.polynomials.specs.Groups.{totalWeight}
 use Rattle.polynomials.specs.Limits.{cap}
@@ -28,13 +28,13 @@ use Rattle.layout.proofs.Refused.{read-given, read-kept, read-sound, read-done}
 use Rattle.layout.proofs.Accepted.{read-told, sound-limits, sound-weights, same-exactly}
 use Rattle.cumulus.specs.Model.{coefficients, modelValue, scale}
 use Rattle.cumulus.specs.Envelope.{Envelope}
-use Rattle.cumulus.specs.Stored.{Multiple, degreeAt}
+use Rattle.cumulus.specs.Stored.{eachBelongs, Multiple, degreeAt}
 use Rattle.cumulus.specs.Published.{published, publishNumber, publishOutput}
 use Rattle.cumulus.specs.Checked.{asked, checked}
 use Rattle.cumulus.proofs.Answers.{fitting, other}
 use Rattle.cumulus.proofs.Length.{published-length}
 use Rattle.cumulus.proofs.Envelope.{published-good, published-light, read-inside}
-use Rattle.cumulus.proofs.Model.{read-model}
+use Rattle.cumulus.proofs.Model.{own-variables, read-model}
 use Rattle.cumulus.proofs.Scaling.{scaling}
 use Rattle.cumulus.proofs.Checked.{all-checked}
 use Rattle.door.proofs.Firsts.{first-exactly}
@@ -95,6 +95,10 @@ smallest-too-heavy t k h l = smallest-heavy t k h (omega (arith, table-size))
 pub published-answers-the-print : (x : ℕ → ℤ) (out : List ℤ) → length out ≡ cumulus .blocks → Envelope x
     → (readNumber cumulus published x out ≡ done) × (readOutput cumulus published x out ≡ map (λ C. modelValue C x) coefficients)
 published-answers-the-print x = read-model x
+
+-- Each printed equation has only its own two variables, and at most the degree of its group.
+pub print-in-its-variables : map eachBelongs coefficients ≡ replicate (cumulus .blocks) (replicate (length (cumulus .kinds)) true)
+print-in-its-variables = own-variables
 
 -- A reading is refused exactly when it is outside.
 pub published-refuses-the-outside : (x : ℕ → ℤ) (out : List ℤ) → length out ≡ cumulus .blocks → (readNumber cumulus published x out ≡ done) ↔ Envelope x
