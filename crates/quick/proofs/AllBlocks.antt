@@ -35,6 +35,7 @@ use Rattle.polynomials.specs.declared.Weighed.the-variants.{Within, Passed}
 use Rattle.polynomials.proofs.Bounds.{sum-mono}
 use Rattle.polynomials.proofs.Cap.{within-against}
 use Rattle.layout.specs.Shape.{tableLength, cumulus}
+use Rattle.layout.specs.Numbers.{pitchSize, sideSize, xiStart, zetaStart, blockSize}
 use Rattle.layout.specs.Blocks.{piece, low, high, coefficient}
 use Rattle.layout.specs.Sound.{withinCap}
 use Rattle.layout.proofs.Tests.{all-every}
@@ -57,7 +58,7 @@ joined-more t n k m x h e b l = pick (decLt b n)
     pick (yes a) = N.le-trans (h b a) (or-left m x)
     pick (no a) = let d : b ≡ n = omega arith in N.le-trans (N.le-of-eq (ap (λ i. sizeAt t i k) d ∙ sym e)) (or-right m x)
 
-pub all-joined-more : (t : List ℤ) (start k : ℕ) (l : List ℕ) (m : ℕ) → k < length l → AllJoined t start k l → Joined t 6 (start + k) m → AllJoined t start (k + 1) (set l k m)
+pub all-joined-more : (t : List ℤ) (start k : ℕ) (l : List ℕ) (m : ℕ) → k < length l → AllJoined t start k l → Joined t (cumulus .blocks) (start + k) m → AllJoined t start (k + 1) (set l k m)
 all-joined-more t start k l m inside h j i li b hb = pick (decLt i k)
   where
     pick : Dec (i < k) → sizeAt t b (start + i) ≤ getD (set l k m) i 0
@@ -66,7 +67,7 @@ all-joined-more t start k l m inside h j i li b hb = pick (decLt i k)
         let e : i ≡ k = omega arith in
         N.le-trans (subst (λ n. sizeAt t b (start + n) ≤ m) (sym e) (j b hb)) (N.le-of-eq (sym (ap (λ n. getD (set l k m) n 0) e ∙ getD-set-same l k m 0 inside)))
 
-joined-weight : (t : List ℤ) (start : ℕ) (l : List ℕ) (x y : ℕ) → AllJoined t start (length l) l → (b : ℕ) → b < 6 → groupWeight t b start (length l) x y ≤ evaluated nats l x y
+joined-weight : (t : List ℤ) (start : ℕ) (l : List ℕ) (x y : ℕ) → AllJoined t start (length l) l → (b : ℕ) → b < cumulus .blocks → groupWeight t b start (length l) x y ≤ evaluated nats l x y
 unfolding evaluated term
 joined-weight t start l x y h b hb =
     sum-mono (length l) _ _
@@ -96,29 +97,29 @@ module _ (t : List ℤ) (start n : ℕ) {x y : ℤ} (f : SFits w64 x) (g : SFits
       subst (λ a. heaviest t start n (natAbs a) (natAbs y) w) (toZ-ofZ f) (subst (λ b. heaviest t start n (natAbs (toZ w64 (ofZ w64 x))) (natAbs b) w) (toZ-ofZ g) h)
 
 -- a group at two of the reaches
-pub placed-at : (t : List ℤ) (start n : ℕ) (l : List ℤ) (i j : ℕ) → length t ≡ tableLength cumulus → start + n ≤ 50 → Reaching l → i < 5 → j < 5 → Placed t start n (getD l i (pos 0)) (getD l j (pos 0))
+pub placed-at : (t : List ℤ) (start n : ℕ) (l : List ℤ) (i j : ℕ) → length t ≡ tableLength cumulus → start + n ≤ blockSize → Reaching l → i < cumulus .variables → j < cumulus .variables → Placed t start n (getD l i (pos 0)) (getD l j (pos 0))
 placed-at t start n l i j e h r hi hj = record { whole = e; inside = h; one-r = r .one i hi; one-s = r .one j hj }
 
 -- ---- the pieces, whose reaches are the same but for alpha's
 module _ (t l h : List ℤ) (e : length t ≡ tableLength cumulus) (same : SameSides l h) where
   abbrev Below : ℕ → ℕ → ℕ → ℕ → ℕ → Type 0
-  Below start n x y m = (b : ℕ) → b < 6 → groupWeight t b start n x y ≤ m
+  Below start n x y m = (b : ℕ) → b < cumulus .blocks → groupWeight t b start n x y ≤ m
 
-  pub all-within : (sides down up : ℕ) → ((b : ℕ) → b < 6 → groupWeight t b 20 15 (reach l 1) (reach l 2) + groupWeight t b 35 15 (reach l 1) (reach l 4) ≤ sides)
-      → Below 0 10 (reach l 0) (reach l 3) down → Below 10 10 (reach h 0) (reach h 3) up → down + sides ≤ cap → up + sides ≤ cap
+  pub all-within : (sides down up : ℕ) → ((b : ℕ) → b < cumulus .blocks → groupWeight t b xiStart sideSize (reach l 1) (reach l 2) + groupWeight t b zetaStart sideSize (reach l 1) (reach l 4) ≤ sides)
+      → Below 0 pitchSize (reach l 0) (reach l 3) down → Below pitchSize pitchSize (reach h 0) (reach h 3) up → down + sides ≤ cap → up + sides ≤ cap
       → withinCap cumulus t (reachesOf l h) ≡ true
   unfolding withinCap
   all-within sides down up hsides hdown hup low-fits high-fits =
-      all-every 6 _ (λ b hb. all-every 2 _ (λ n hn. each b n hb hn))
+      all-every (cumulus .blocks) _ (λ b hb. all-every 2 _ (λ n hn. each b n hb hn))
     where
-      alike : (b start i : ℕ) → getD l i (pos 0) ≡ getD h i (pos 0) → groupWeight t b start 15 (reach h 1) (reach h i) ≡ groupWeight t b start 15 (reach l 1) (reach l i)
-      alike b start i d = ap₂ (λ x y. groupWeight t b start 15 (natAbs x) (natAbs y)) (sym (same .beta)) (sym d)
+      alike : (b start i : ℕ) → getD l i (pos 0) ≡ getD h i (pos 0) → groupWeight t b start sideSize (reach h 1) (reach h i) ≡ groupWeight t b start sideSize (reach l 1) (reach l i)
+      alike b start i d = ap₂ (λ x y. groupWeight t b start sideSize (natAbs x) (natAbs y)) (sym (same .beta)) (sym d)
 
-      each : (b n : ℕ) → b < 6 → n < 2 → leb (totalWeight (coefficient cumulus t b (piece n)) (reachesOf l h (piece n))) cap ≡ true
+      each : (b n : ℕ) → b < cumulus .blocks → n < 2 → leb (totalWeight (coefficient cumulus t b (piece n)) (reachesOf l h (piece n))) cap ≡ true
       each b zero hb hn =
           le-leb (totalWeight (coefficient cumulus t b low) (reachesOf l h low)) cap
           (omega (arith, groups-sum t b 0 (reachesOf l h low) e hb hn, hsides b hb, hdown b hb, low-fits))
       each b (suc zero) hb hn =
           le-leb (totalWeight (coefficient cumulus t b high) (reachesOf l h high)) cap
-          (omega (arith, groups-sum t b 1 (reachesOf l h high) e hb hn, alike b 20 2 (same .xi), alike b 35 4 (same .zeta), hsides b hb, hup b hb, high-fits))
+          (omega (arith, groups-sum t b 1 (reachesOf l h high) e hb hn, alike b xiStart 2 (same .xi), alike b zetaStart 4 (same .zeta), hsides b hb, hup b hb, high-fits))
       each b (suc (suc n)) hb hn = absurd (omega arith)

@@ -15,8 +15,8 @@ reachesOf l h high i = natAbs (getD h i (pos 0))
 
 -- a reach of each variable: at least 1, and no larger than the code meets
 pub record Reaching (l : List ℤ) : Type 0 where
-  pub one : (i : ℕ) → i < 5 → pos 1 ≤ℤ getD l i (pos 0)
-  pub near : (i : ℕ) → i < 5 → natAbs (getD l i (pos 0)) ≤ farthest
+  pub one : (i : ℕ) → i < cumulus .variables → pos 1 ≤ℤ getD l i (pos 0)
+  pub near : (i : ℕ) → i < cumulus .variables → natAbs (getD l i (pos 0)) ≤ farthest
 
 -- what the weight check asks of a table and the reaches
 pub record Checkable (t l h : List ℤ) : Type 0 where

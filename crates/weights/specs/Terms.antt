@@ -16,14 +16,17 @@ use Rattle.layout.specs.Numbers.{limitsSize, blockSize, pitchSize, sideSize}
 abbrev pub product : ℕ → ℕ → ℕ → ℕ
 product r s k = r ^ powers k .first * s ^ powers k .second
 
--- how many terms there are
+-- where the terms of beta and xi end, and how many terms there are
+abbrev pub xiEnd : ℕ
+xiEnd = pitchSize + sideSize
+
 abbrev pub terms : ℕ
-terms = pitchSize + sideSize + sideSize
+terms = xiEnd + sideSize
 
 -- the powers that term k counts with, at given reaches: of alpha and eta, of beta and xi, of beta and zeta
 unfoldable pub factorAt : (ℕ → ℕ) → ℕ → ℕ
 factorAt r k =
-    cond (ltb k pitchSize) (product (r 0) (r 3) k) (cond (ltb k (pitchSize + sideSize)) (product (r 1) (r 2) (k - pitchSize)) (product (r 1) (r 4) (k - (pitchSize + sideSize))))
+    cond (ltb k pitchSize) (product (r 0) (r 3) k) (cond (ltb k xiEnd) (product (r 1) (r 2) (k - pitchSize)) (product (r 1) (r 4) (k - xiEnd)))
 
 -- where the number of term k stands in a table, for the block b and the piece n: a block has the low group, the high group and the side groups
 unfoldable pub termPlace : ℕ → ℕ → ℕ → ℕ

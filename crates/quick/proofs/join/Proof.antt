@@ -6,17 +6,19 @@ use borrow.Author.Needs.{needs, sfits-of}
 use lib.IntN.{pos, natAbs}
 use lib.ListN.{getD}
 use mir.Facts.{toZ-ofZ}
+use Rattle.layout.specs.Shape.{cumulus}
+use Rattle.layout.specs.Numbers.{limitsSize, blockSize}
+use Rattle.layout.proofs.Sizes.{table-size}
 use Rattle.quick.specs.Joined.{Joined}
-use Rattle.weights.proofs.Terms.{whole-length}
 use Rattle.quick.proofs.AllBlocks.{joined-more}
 use Rattle.quick.proofs.join.Statement.{statement}
 use Rattle.quick.proofs.join.Tie as tie
 
 abbrev Inv-loop : tie.InvT-loop
-Inv-loop table place bits₀ block₀ bits block = (block ≤ 6) × Joined table block place bits
+Inv-loop table place bits₀ block₀ bits block = (block ≤ cumulus .blocks) × Joined table block place bits
 
 abbrev μ-loop : tie.MeasureT-loop
-μ-loop table place bits₀ block₀ bits block = 6 - block
+μ-loop table place bits₀ block₀ bits block = cumulus .blocks - block
 
 loop-holds : tie.Need-loop-holds Inv-loop μ-loop
 loop-holds c = (omega arith, λ b h. absurd (omega arith))
@@ -34,7 +36,7 @@ mul-magnitude : tie.Need-mul-magnitude Inv-loop μ-loop
 mul-magnitude c = search needs
 
 shared-slice-copy-out-magnitude : tie.Need-shared-slice-copy-out-magnitude Inv-loop μ-loop
-shared-slice-copy-out-magnitude c = omega (arith, whole-length, c .before .before .pre .0, c .before .before .pre .1)
+shared-slice-copy-out-magnitude c = omega (arith, table-size, c .before .before .pre .0, c .before .before .pre .1)
 
 magnitude-requires : tie.Need-magnitude-requires Inv-loop μ-loop
 magnitude-requires c κs = search needs
@@ -49,7 +51,7 @@ loop-again : tie.Need-loop-again Inv-loop μ-loop
 loop-again c =
     let l = c .before .before .before in
     let a = l .before in
-    let at = 11 + 50 * l .loop .block + a .args .place in (
+    let at = limitsSize + blockSize * l .loop .block + a .args .place in (
       omega (arith, c .before .before .loop-test .taken),
       joined-more (a .args .table .now) (l .loop .block) (a .args .place) (l .loop .bits) (c .magnitude .result) (l .loop .inv .1)
           (c .magnitude .ensures ∙ ap natAbs (toZ-ofZ (sfits-of {z = getD (a .args .table .now) at (pos 0)} (c .before .magnitude-arg .given)))),
@@ -58,7 +60,7 @@ loop-again c =
 returns : tie.Need-returns Inv-loop μ-loop
 returns c =
     let l = c .before in
-    let e : l .loop .block ≡ 6 = omega arith in
+    let e : l .loop .block ≡ cumulus .blocks = omega arith in
     subst (λ n. Joined (l .before .args .table .now) n (l .before .args .place) (l .loop .bits)) e (l .loop .inv .1)
 
 pub join-spec : {M : Type 1} → statement M

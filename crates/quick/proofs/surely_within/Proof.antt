@@ -7,8 +7,8 @@ use native.Mathlib.Omega.{arith}
 use borrow.Author.Needs.{needs, sfits-of}
 use lib.IntN.{pos, natAbs}
 use lib.ListN.{getD}
-use Rattle.polynomials.specs.Order.{below, size}
 use Rattle.polynomials.specs.declared.Weighed.the-variants.{Within}
+use Rattle.layout.specs.Numbers.{pitchSize}
 use Rattle.quick.specs.Joined.{reach, heaviest, heaviestSides, surely, SameSides}
 use Rattle.quick.proofs.AllBlocks.{placed-at, placed-bits, heaviest-bits, all-within}
 use Rattle.quick.proofs.surely_within.Statement.{statement}
@@ -26,14 +26,13 @@ module _ (c : tie.After-down) where
   abbrev sides : tie.After-sides
   sides = c .before .before .before .before .before .before
 
-  down-heaviest : heaviest (begin sides .args .table .now) 0 10 (reach (begin sides .args .t2) 0) (reach (begin sides .args .t2) 3) (Within (c .down .given .0 .0))
-  unfolding below
+  down-heaviest : heaviest (begin sides .args .table .now) 0 pitchSize (reach (begin sides .args .t2) 0) (reach (begin sides .args .t2) 3) (Within (c .down .given .0 .0))
   down-heaviest =
       let w = c .before .before in
       let a = w .before in
       let l = begin sides .args .t2 in
-      subst (heaviest (begin sides .args .table .now) 0 10 (reach l 0) (reach l 3)) (c .down .given .1)
-      (heaviest-bits (begin sides .args .table .now) 0 (size 3) {x = getD l 0 (pos 0)} {y = getD l 3 (pos 0)} (sfits-of (a .before .weigh-pitch-arg .given)) (sfits-of (a .weigh-pitch-arg2 .given)) (w .weigh-pitch .result) (w .weigh-pitch .ensures))
+      subst (heaviest (begin sides .args .table .now) 0 pitchSize (reach l 0) (reach l 3)) (c .down .given .1)
+      (heaviest-bits (begin sides .args .table .now) 0 pitchSize {x = getD l 0 (pos 0)} {y = getD l 3 (pos 0)} (sfits-of (a .before .weigh-pitch-arg .given)) (sfits-of (a .weigh-pitch-arg2 .given)) (w .weigh-pitch .result) (w .weigh-pitch .ensures))
 
 module _ (c : tie.After-up) where
   abbrev down : tie.After-down
@@ -42,14 +41,13 @@ module _ (c : tie.After-up) where
   abbrev start : tie.Start
   start = begin (sides down)
 
-  up-heaviest : heaviest (start .args .table .now) 10 10 (reach (start .args .t3) 0) (reach (start .args .t3) 3) (Within (c .up .given .0 .0))
-  unfolding below
+  up-heaviest : heaviest (start .args .table .now) pitchSize pitchSize (reach (start .args .t3) 0) (reach (start .args .t3) 3) (Within (c .up .given .0 .0))
   up-heaviest =
       let w = c .before .before in
       let a = w .before in
       let l = start .args .t3 in
-      subst (heaviest (start .args .table .now) 10 10 (reach l 0) (reach l 3)) (c .up .given .1)
-      (heaviest-bits (start .args .table .now) 10 (size 3) {x = getD l 0 (pos 0)} {y = getD l 3 (pos 0)} (sfits-of (a .before .weigh-pitch-arg3 .given)) (sfits-of (a .weigh-pitch-arg4 .given)) (w .weigh-pitch2 .result) (w .weigh-pitch2 .ensures))
+      subst (heaviest (start .args .table .now) pitchSize pitchSize (reach l 0) (reach l 3)) (c .up .given .1)
+      (heaviest-bits (start .args .table .now) pitchSize pitchSize {x = getD l 0 (pos 0)} {y = getD l 3 (pos 0)} (sfits-of (a .before .weigh-pitch-arg3 .given)) (sfits-of (a .weigh-pitch-arg4 .given)) (w .weigh-pitch2 .result) (w .weigh-pitch2 .ensures))
 
 -- the answer is that of the side reaches
 if-same : (b : Bool) (A B : Type 0) → (A → B) → surely b A → surely b B
@@ -75,11 +73,10 @@ array-copy-out-weigh-pitch-2 : tie.Need-array-copy-out-weigh-pitch-2
 array-copy-out-weigh-pitch-2 c = search needs
 
 weigh-pitch-requires : tie.Need-weigh-pitch-requires
-unfolding below
 weigh-pitch-requires c κs =
     let a = begin (c .before .before .before) in
-    placed-bits (a .args .table .now) 0 (size 3) (sfits-of (c .before .weigh-pitch-arg .given)) (sfits-of (c .weigh-pitch-arg2 .given))
-    (placed-at (a .args .table .now) 0 (size 3) (a .args .t2) 0 3 (a .pre .whole) (omega arith) (a .pre .low) (omega arith) (omega arith))
+    placed-bits (a .args .table .now) 0 pitchSize (sfits-of (c .before .weigh-pitch-arg .given)) (sfits-of (c .weigh-pitch-arg2 .given))
+    (placed-at (a .args .table .now) 0 pitchSize (a .args .t2) 0 3 (a .pre .whole) (omega arith) (a .pre .low) (omega arith) (omega arith))
 
 enum-known-down : tie.Need-enum-known-down
 enum-known-down c = search needs
@@ -97,11 +94,10 @@ array-copy-out-weigh-pitch-4 : tie.Need-array-copy-out-weigh-pitch-4
 array-copy-out-weigh-pitch-4 c = search needs
 
 weigh-pitch-requires-2 : tie.Need-weigh-pitch-requires-2
-unfolding below
 weigh-pitch-requires-2 c κs =
     let a = begin (sides (c .before .before .before)) in
-    placed-bits (a .args .table .now) 10 (size 3) (sfits-of (c .before .weigh-pitch-arg3 .given)) (sfits-of (c .weigh-pitch-arg4 .given))
-    (placed-at (a .args .table .now) 10 (size 3) (a .args .t3) 0 3 (a .pre .whole) (omega arith) (a .pre .high) (omega arith) (omega arith))
+    placed-bits (a .args .table .now) pitchSize pitchSize (sfits-of (c .before .weigh-pitch-arg3 .given)) (sfits-of (c .weigh-pitch-arg4 .given))
+    (placed-at (a .args .table .now) pitchSize pitchSize (a .args .t3) 0 3 (a .pre .whole) (omega arith) (a .pre .high) (omega arith) (omega arith))
 
 enum-known-up : tie.Need-enum-known-up
 enum-known-up c = search needs

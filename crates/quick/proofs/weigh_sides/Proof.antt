@@ -8,8 +8,8 @@ use lib.IntN.{pos, natAbs}
 use lib.ListN.{getD}
 use mir.Syntax.{w64}
 use mir.Val.{SFits}
-use Rattle.polynomials.specs.Order.{below, size}
 use Rattle.polynomials.specs.declared.Weighed.the-variants.{Within}
+use Rattle.layout.specs.Numbers.{sideSize, xiStart, zetaStart}
 use Rattle.quick.specs.Joined.{reach, heaviest}
 use Rattle.quick.proofs.AllBlocks.{placed-at, placed-bits, heaviest-bits}
 use Rattle.quick.proofs.weigh_sides.Statement.{statement}
@@ -20,25 +20,23 @@ module _ (c : tie.After-xi) where
   abbrev begin : tie.Start
   begin = c .before .before .before .before .before
 
-  xi-heaviest : heaviest (begin .args .table .now) 20 15 (reach (begin .args .t2) 1) (reach (begin .args .t2) 2) (Within (c .xi .given .0 .0))
-  unfolding below
+  xi-heaviest : heaviest (begin .args .table .now) xiStart sideSize (reach (begin .args .t2) 1) (reach (begin .args .t2) 2) (Within (c .xi .given .0 .0))
   xi-heaviest =
       let w = c .before .before in
       let a = w .before in
-      subst (heaviest (begin .args .table .now) 20 15 (reach (begin .args .t2) 1) (reach (begin .args .t2) 2)) (c .xi .given .1)
-      (heaviest-bits (begin .args .table .now) 20 (size 4) {x = getD (begin .args .t2) 1 (pos 0)} {y = getD (begin .args .t2) 2 (pos 0)} (sfits-of (a .before .weigh-side-arg .given)) (sfits-of (a .weigh-side-arg2 .given)) (w .weigh-side .result) (w .weigh-side .ensures))
+      subst (heaviest (begin .args .table .now) xiStart sideSize (reach (begin .args .t2) 1) (reach (begin .args .t2) 2)) (c .xi .given .1)
+      (heaviest-bits (begin .args .table .now) xiStart sideSize {x = getD (begin .args .t2) 1 (pos 0)} {y = getD (begin .args .t2) 2 (pos 0)} (sfits-of (a .before .weigh-side-arg .given)) (sfits-of (a .weigh-side-arg2 .given)) (w .weigh-side .result) (w .weigh-side .ensures))
 
 module _ (c : tie.After-zeta) where
   abbrev xi : tie.After-xi
   xi = c .before .before .before .before .before .before
 
-  zeta-heaviest : heaviest (begin xi .args .table .now) 35 15 (reach (begin xi .args .t2) 1) (reach (begin xi .args .t2) 4) (Within (c .zeta .given .0 .0))
-  unfolding below
+  zeta-heaviest : heaviest (begin xi .args .table .now) zetaStart sideSize (reach (begin xi .args .t2) 1) (reach (begin xi .args .t2) 4) (Within (c .zeta .given .0 .0))
   zeta-heaviest =
       let w = c .before .before in
       let a = w .before in
-      subst (heaviest (begin xi .args .table .now) 35 15 (reach (begin xi .args .t2) 1) (reach (begin xi .args .t2) 4)) (c .zeta .given .1)
-      (heaviest-bits (begin xi .args .table .now) 35 (size 4) {x = getD (begin xi .args .t2) 1 (pos 0)} {y = getD (begin xi .args .t2) 4 (pos 0)} (sfits-of (a .before .weigh-side-arg3 .given)) (sfits-of (a .weigh-side-arg4 .given)) (w .weigh-side2 .result) (w .weigh-side2 .ensures))
+      subst (heaviest (begin xi .args .table .now) zetaStart sideSize (reach (begin xi .args .t2) 1) (reach (begin xi .args .t2) 4)) (c .zeta .given .1)
+      (heaviest-bits (begin xi .args .table .now) zetaStart sideSize {x = getD (begin xi .args .t2) 1 (pos 0)} {y = getD (begin xi .args .t2) 4 (pos 0)} (sfits-of (a .before .weigh-side-arg3 .given)) (sfits-of (a .weigh-side-arg4 .given)) (w .weigh-side2 .result) (w .weigh-side2 .ensures))
 
 array-copy-out-weigh-side : tie.Need-array-copy-out-weigh-side
 array-copy-out-weigh-side c = search needs
@@ -47,11 +45,10 @@ array-copy-out-weigh-side-2 : tie.Need-array-copy-out-weigh-side-2
 array-copy-out-weigh-side-2 c = search needs
 
 weigh-side-requires : tie.Need-weigh-side-requires
-unfolding below
 weigh-side-requires c κs =
     let a = c .before .before in
-    placed-bits (a .args .table .now) 20 (size 4) (sfits-of (c .before .weigh-side-arg .given)) (sfits-of (c .weigh-side-arg2 .given))
-    (placed-at (a .args .table .now) 20 (size 4) (a .args .t2) 1 2 (a .pre .0) (omega arith) (a .pre .1) (omega arith) (omega arith))
+    placed-bits (a .args .table .now) xiStart sideSize (sfits-of (c .before .weigh-side-arg .given)) (sfits-of (c .weigh-side-arg2 .given))
+    (placed-at (a .args .table .now) xiStart sideSize (a .args .t2) 1 2 (a .pre .0) (omega arith) (a .pre .1) (omega arith) (omega arith))
 
 enum-known-xi : tie.Need-enum-known-xi
 enum-known-xi c = search needs
@@ -69,11 +66,10 @@ array-copy-out-weigh-side-4 : tie.Need-array-copy-out-weigh-side-4
 array-copy-out-weigh-side-4 c = search needs
 
 weigh-side-requires-2 : tie.Need-weigh-side-requires-2
-unfolding below
 weigh-side-requires-2 c κs =
     let a = begin (c .before .before .before) in
-    placed-bits (a .args .table .now) 35 (size 4) (sfits-of (c .before .weigh-side-arg3 .given)) (sfits-of (c .weigh-side-arg4 .given))
-    (placed-at (a .args .table .now) 35 (size 4) (a .args .t2) 1 4 (a .pre .0) (omega arith) (a .pre .1) (omega arith) (omega arith))
+    placed-bits (a .args .table .now) zetaStart sideSize (sfits-of (c .before .weigh-side-arg3 .given)) (sfits-of (c .weigh-side-arg4 .given))
+    (placed-at (a .args .table .now) zetaStart sideSize (a .args .t2) 1 4 (a .pre .0) (omega arith) (a .pre .1) (omega arith) (omega arith))
 
 enum-known-zeta : tie.Need-enum-known-zeta
 enum-known-zeta c = search needs

@@ -24,13 +24,15 @@ use Rattle.polynomials.proofs.Listed.{getD-listed}
 use Rattle.polynomials.proofs.Bounds.{sum-part}
 use Rattle.polynomials.proofs.Cap.{within-against, passed-against}
 use Rattle.layout.specs.Shape.{cumulus}
+use Rattle.layout.specs.Numbers.{tableSize}
 use Rattle.layout.specs.Limits.{every}
 use Rattle.layout.specs.Blocks.{Piece, piece, coefficient}
 use Rattle.layout.specs.Sound.{withinCap}
 use Rattle.weights.specs.Reaches.{reachesOf}
-use Rattle.weights.specs.Terms.{factorAt, termPlace}
+use Rattle.weights.specs.Terms.{terms, factorAt, termPlace}
+use Rattle.layout.proofs.Sizes.{table-size}
 use Rattle.layout.proofs.Tests.{every-none, every-more, every-stops, every-ext}
-use Rattle.weights.proofs.Terms.{place-bound, positive, whole-length, weight-terms}
+use Rattle.weights.proofs.Terms.{place-bound, positive, weight-terms}
 use Rattle.weights.proofs.each_within.Statement.{statement}
 use Rattle.weights.proofs.each_within.Tie as tie
 
@@ -39,14 +41,14 @@ abbrev weighing : List ℤ → List (List ℕ) → ℕ → ℕ → ℕ → ℕ
 weighing t rows b n k = natAbs (getD t (termPlace b n k) (pos 0)) * getD (getD rows n []) k 0
 
 abbrev fits : List ℤ → List (List ℕ) → ℕ → ℕ → Bool
-fits t rows b n = leb (Σ nats 40 (weighing t rows b n)) cap
+fits t rows b n = leb (Σ nats terms (weighing t rows b n)) cap
 
 abbrev Inv-loop2 : tie.InvT-loop2
 Inv-loop2 table rows ok₀ block piece sum₀ term₀ ok sum term =
-    (term ≤ 40) × (sum ≤ cap) × (sum ≡ Σ nats term (weighing table rows block piece)) × (ok ≡ true)
+    (term ≤ terms) × (sum ≤ cap) × (sum ≡ Σ nats term (weighing table rows block piece)) × (ok ≡ true)
 
 abbrev μ-loop2 : tie.MeasureT-loop2
-μ-loop2 table rows ok₀ block piece sum₀ term₀ ok sum term = 40 - term
+μ-loop2 table rows ok₀ block piece sum₀ term₀ ok sum term = terms - term
 
 abbrev Inv-loop : tie.InvT-loop
 Inv-loop table rows ok₀ block piece₀ ok piece = (piece ≤ 2) × (every piece (fits table rows block) ≡ true) × (ok ≡ true)
@@ -55,10 +57,10 @@ abbrev μ-loop : tie.MeasureT-loop
 μ-loop table rows ok₀ block piece₀ ok piece = 2 - piece
 
 abbrev Inv-blocks2 : tie.InvT-blocks2
-Inv-blocks2 table rows ok₀ block₀ ok block = (block ≤ 6) × (every block (λ b. every 2 (fits table rows b)) ≡ true) × (ok ≡ true)
+Inv-blocks2 table rows ok₀ block₀ ok block = (block ≤ cumulus .blocks) × (every block (λ b. every 2 (fits table rows b)) ≡ true) × (ok ≡ true)
 
 abbrev μ-blocks2 : tie.MeasureT-blocks2
-μ-blocks2 table rows ok₀ block₀ ok block = 6 - block
+μ-blocks2 table rows ok₀ block₀ ok block = cumulus .blocks - block
 
 -- ---- the two rows are the factors at the reaches
 module _ (a : tie.After-factors2 Inv-loop2 μ-loop2 Inv-loop μ-loop Inv-blocks2 μ-blocks2) where
@@ -74,31 +76,31 @@ module _ (a : tie.After-factors2 Inv-loop2 μ-loop2 Inv-loop μ-loop Inv-blocks2
   abbrev rows : List (List ℕ)
   rows = a .before .factors .result ∷ a .factors2 .result ∷ []
 
-  row-at : (n k : ℕ) → n < 2 → k < 40 → getD (getD rows n []) k 0 ≡ factorAt (reaches (piece n)) k
-  row-at zero k hn hk = ap (λ l. getD l k 0) (a .before .factors .ensures) ∙ getD-listed 40 _ k 0 hk
-  row-at (suc zero) k hn hk = ap (λ l. getD l k 0) (a .factors2 .ensures) ∙ getD-listed 40 _ k 0 hk
+  row-at : (n k : ℕ) → n < 2 → k < terms → getD (getD rows n []) k 0 ≡ factorAt (reaches (piece n)) k
+  row-at zero k hn hk = ap (λ l. getD l k 0) (a .before .factors .ensures) ∙ getD-listed terms _ k 0 hk
+  row-at (suc zero) k hn hk = ap (λ l. getD l k 0) (a .factors2 .ensures) ∙ getD-listed terms _ k 0 hk
   row-at (suc (suc n)) k hn hk = absurd (omega arith)
 
-  row-positive : (n k : ℕ) → n < 2 → k < 40 → 1 ≤ getD (getD rows n []) k 0
+  row-positive : (n k : ℕ) → n < 2 → k < terms → 1 ≤ getD (getD rows n []) k 0
   row-positive n k hn hk = subst (λ f. 1 ≤ f) (sym (row-at n k hn hk)) (pick n)
     where
       pick : (n : ℕ) → 1 ≤ factorAt (reaches (piece n)) k
       pick zero = positive (start .pre .low) k
       pick (suc n) = positive (start .pre .high) k
 
-  weight-is : (b n : ℕ) → b < 6 → n < 2 → totalWeight (coefficient cumulus table b (piece n)) (reaches (piece n)) ≡ Σ nats 40 (weighing table rows b n)
+  weight-is : (b n : ℕ) → b < cumulus .blocks → n < 2 → totalWeight (coefficient cumulus table b (piece n)) (reaches (piece n)) ≡ Σ nats terms (weighing table rows b n)
   weight-is b n hb hn =
       weight-terms table b n (reaches (piece n)) (start .pre .whole) hb hn
-      ∙ sum-ext natural 40 _ _ (λ k hk. ap (λ f. natAbs (getD table (termPlace b n k) (pos 0)) * f) (sym (row-at n k hn hk)))
+      ∙ sum-ext natural terms _ _ (λ k hk. ap (λ f. natAbs (getD table (termPlace b n k) (pos 0)) * f) (sym (row-at n k hn hk)))
 
   abbrev blockFits : ℕ → Bool
   blockFits b = every 2 (fits table rows b)
 
-  asked : withinCap cumulus table reaches ≡ every 6 blockFits
+  asked : withinCap cumulus table reaches ≡ every (cumulus .blocks) blockFits
   unfolding withinCap
-  asked = every-ext 6 _ _ (λ b hb. every-ext 2 _ _ (λ n hn. ap (λ m. leb m cap) (weight-is b n hb hn)))
+  asked = every-ext (cumulus .blocks) _ _ (λ b hb. every-ext 2 _ _ (λ n hn. ap (λ m. leb m cap) (weight-is b n hb hn)))
 
--- ---- where a turn of the inner loop stands, and the terms it goes over
+-- ---- where a turn of the inner loop stands, and the weights of the terms it goes over
 module _ (l : tie.At-loop2 Inv-loop2 μ-loop2 Inv-loop μ-loop Inv-blocks2 μ-blocks2) where
   abbrev pieces : tie.At-loop Inv-loop2 μ-loop2 Inv-loop μ-loop Inv-blocks2 μ-blocks2
   pieces = l .before .before
@@ -109,13 +111,13 @@ module _ (l : tie.At-loop2 Inv-loop2 μ-loop2 Inv-loop μ-loop Inv-blocks2 μ-bl
   abbrev place : ℕ → ℕ
   place = termPlace (blocks .blocks2 .block) (pieces .loop .piece)
 
-  abbrev terms : ℕ → ℕ
-  terms = weighing (table (blocks .before)) (rows (blocks .before)) (blocks .blocks2 .block) (pieces .loop .piece)
+  abbrev weights : ℕ → ℕ
+  weights = weighing (table (blocks .before)) (rows (blocks .before)) (blocks .blocks2 .block) (pieces .loop .piece)
 
-inside : (c : tie.After-term-place Inv-loop2 μ-loop2 Inv-loop μ-loop Inv-blocks2 μ-blocks2) → c .term-place .result < 311
+inside : (c : tie.After-term-place Inv-loop2 μ-loop2 Inv-loop μ-loop Inv-blocks2 μ-blocks2) → c .term-place .result < tableSize
 inside c =
     let l = c .before .before in
-    subst (λ p. p < 311) (sym (c .term-place .ensures))
+    subst (λ p. p < tableSize) (sym (c .term-place .ensures))
     (place-bound (blocks l .blocks2 .block) (pieces l .loop .piece) (l .loop2 .term) (omega arith) (omega arith) (omega arith))
 
 -- ---- at the call of `add_term`: what it is asked of is the sum with one term more
@@ -130,14 +132,14 @@ module _ (c : tie.After-add-term Inv-loop2 μ-loop2 Inv-loop μ-loop Inv-blocks2
   at = c .before .before .before .term-place .result
 
   abbrev more : ℕ
-  more = Σ nats (here .loop2 .term + 1) (terms here)
+  more = Σ nats (here .loop2 .term + 1) (weights here)
 
   number-is : toZ w64 (ofZ w64 (getD numbers at (pos 0))) ≡ getD numbers (place here (here .loop2 .term)) (pos 0)
   number-is =
       toZ-ofZ (sfits-of {z = getD numbers at (pos 0)} (c .before .add-term-arg .given)) ∙ ap (λ p. getD numbers p (pos 0)) (c .before .before .before .term-place .ensures)
 
-  one-more : Σ nats (here .loop2 .term) (terms here) + terms here (here .loop2 .term) ≡ more
-  one-more = sym (ap (λ n. Σ nats n (terms here)) (add-one (here .loop2 .term)) ∙ sum-suc natural (here .loop2 .term) (terms here))
+  one-more : Σ nats (here .loop2 .term) (weights here) + weights here (here .loop2 .term) ≡ more
+  one-more = sym (ap (λ n. Σ nats n (weights here)) (add-one (here .loop2 .term)) ∙ sum-suc natural (here .loop2 .term) (weights here))
 
   result-is : c .add-term .result ≡ against more
   result-is =
@@ -183,7 +185,7 @@ mul-add-term c = omega (arith, inside (c .before))
 
 shared-slice-copy-out-add-term :
     tie.Need-shared-slice-copy-out-add-term Inv-loop2 μ-loop2 Inv-loop μ-loop Inv-blocks2 μ-blocks2
-shared-slice-copy-out-add-term c = omega (arith, inside (c .before), whole-length, start (blocks (c .before .before .before) .before) .pre .whole)
+shared-slice-copy-out-add-term c = omega (arith, inside (c .before), table-size, start (blocks (c .before .before .before) .before) .pre .whole)
 
 add-term-requires :
     tie.Need-add-term-requires Inv-loop2 μ-loop2 Inv-loop μ-loop Inv-blocks2 μ-blocks2
@@ -218,8 +220,8 @@ loop-less c = search needs
 loop-again : tie.Need-loop-again Inv-loop2 μ-loop2 Inv-loop μ-loop Inv-blocks2 μ-blocks2
 loop-again c =
     let l = c .before in
-    let e : l .loop2 .term ≡ 40 = omega arith in
-    let h : Σ nats 40 (terms l) ≤ cap = subst (λ n. Σ nats n (terms l) ≤ cap) e (subst (λ n. n ≤ cap) (l .loop2 .inv .2) (l .loop2 .inv .1)) in
+    let e : l .loop2 .term ≡ terms = omega arith in
+    let h : Σ nats terms (weights l) ≤ cap = subst (λ n. Σ nats n (weights l) ≤ cap) e (subst (λ n. n ≤ cap) (l .loop2 .inv .2) (l .loop2 .inv .1)) in
     (search needs, every-more (pieces l .loop .piece) _ (pieces l .loop .inv .1) (le-leb _ _ h), search needs)
 
 add-block : tie.Need-add-block Inv-loop2 μ-loop2 Inv-loop μ-loop Inv-blocks2 μ-blocks2
@@ -241,7 +243,7 @@ blocks2-again c =
 returns : tie.Need-returns Inv-loop2 μ-loop2 Inv-loop μ-loop Inv-blocks2 μ-blocks2
 returns c =
     let b = c .before in
-    let e : b .blocks2 .block ≡ 6 = omega arith in
+    let e : b .blocks2 .block ≡ cumulus .blocks = omega arith in
     b .blocks2 .inv .2 ∙ sym (asked (b .before) ∙ subst (λ n. every n (blockFits (b .before)) ≡ true) e (b .blocks2 .inv .1))
 
 returns-2 : tie.Need-returns-2 Inv-loop2 μ-loop2 Inv-loop μ-loop Inv-blocks2 μ-blocks2
@@ -250,11 +252,11 @@ returns-2 c =
     let l = here d in
     let a = blocks l .before in
     let h : cap < more d = passed-against (more d) (sym (c .enum-told .given .1) ∙ result-is d) in
-    let s : more d ≤ Σ nats 40 (terms l) = sum-part (l .loop2 .term + 1) 40 (terms l) (omega arith) in
+    let s : more d ≤ Σ nats terms (weights l) = sum-part (l .loop2 .term + 1) terms (weights l) (omega arith) in
     let b : blockFits a (blocks l .blocks2 .block) ≡ false =
-    every-stops 2 (fits (table a) (rows a) (blocks l .blocks2 .block)) (pieces l .loop .piece) (omega arith) (lt-leb (Σ nats 40 (terms l)) cap (omega arith))
+    every-stops 2 (fits (table a) (rows a) (blocks l .blocks2 .block)) (pieces l .loop .piece) (omega arith) (lt-leb (Σ nats terms (weights l)) cap (omega arith))
     in
-    sym (asked a ∙ every-stops 6 (blockFits a) (blocks l .blocks2 .block) (omega arith) b)
+    sym (asked a ∙ every-stops (cumulus .blocks) (blockFits a) (blocks l .blocks2 .block) (omega arith) b)
 
 pub each-within-spec : {M : Type 1} → statement M
 each-within-spec =

@@ -1,13 +1,13 @@
 -- `weights::factors` meets its contract: each call leaves a row of products in its part, and the three rows one after another are the factors.
 -- Assumes nothing.
 use mathlib.Core.Path.{_≡_, sym, _∙_, ap, ap₂, subst}
-use mathlib.Core.List.{List, _++_, replicate}
-use Prim.Native.Nat.{ℕ, _<_, _≤_, _^_}
+use mathlib.Core.List.{List, _++_}
+use Prim.Native.Nat.{ℕ, _+_, _<_, _≤_, _^_}
 use native.Mathlib.Omega.{arith}
 use borrow.Author.Needs.{needs, sfits-of}
 use borrow.Rule.Slice.PartMut.{putMid}
 use lib.IntN.{ℤ, pos, natAbs}
-use lib.ListN.{length, take, drop, getD, length-take}
+use lib.ListN.{length, take, drop, getD, replicate, length-take}
 use lib.Signed.{mag, _≤ℤ_}
 use mir.Syntax.{w64}
 use mir.Val.{toZ, ofZ}
@@ -15,34 +15,36 @@ use mir.Facts.{toZ-ofZ}
 use Rattle.polynomials.specs.Sum.{listed}
 use Rattle.polynomials.specs.Order.{below}
 use Rattle.polynomials.specs.Limits.{farthest}
+use Rattle.layout.specs.Shape.{cumulus}
+use Rattle.layout.specs.Numbers.{pitchSize, sideSize}
 use Rattle.weights.specs.Reaches.{Reaching}
-use Rattle.weights.specs.Terms.{product, factorAt, Fillable}
+use Rattle.weights.specs.Terms.{product, xiEnd, terms, factorAt, Fillable}
 use Rattle.weights.proofs.Terms.{row-bits}
 use Rattle.weights.proofs.factors.Statement.{statement}
 use Rattle.weights.proofs.factors.Tie as tie
 
 -- ---- the array after each call, by what the calls left
 abbrev after-first : List ℕ → List ℕ
-after-first a = a ++ replicate 30 0
+after-first a = a ++ replicate (sideSize + sideSize) 0
 
 abbrev after-second : List ℕ → List ℕ → List ℕ
-after-second a b = putMid 10 15 (after-first a) b
+after-second a b = putMid pitchSize sideSize (after-first a) b
 
-second-row : (f g : ℕ → ℕ) {a b : List ℕ} → a ≡ listed 10 f → b ≡ listed (length (take 15 (drop 10 (after-first a)))) g → b ≡ listed 15 g
+second-row : (f g : ℕ → ℕ) {a b : List ℕ} → a ≡ listed pitchSize f → b ≡ listed (length (take sideSize (drop pitchSize (after-first a)))) g → b ≡ listed sideSize g
 unfolding listed
-second-row f g e s = s ∙ ap (λ l. listed (length (take 15 (drop 10 (after-first l)))) g) e
+second-row f g e s = s ∙ ap (λ l. listed (length (take sideSize (drop pitchSize (after-first l)))) g) e
 
-third-row : (f g h : ℕ → ℕ) {a b d : List ℕ} → a ≡ listed 10 f → b ≡ listed 15 g → d ≡ listed (length (take 15 (drop 25 (after-second a b)))) h → d ≡ listed 15 h
+third-row : (f g h : ℕ → ℕ) {a b d : List ℕ} → a ≡ listed pitchSize f → b ≡ listed sideSize g → d ≡ listed (length (take sideSize (drop xiEnd (after-second a b)))) h → d ≡ listed sideSize h
 unfolding listed
-third-row f g h e s t = t ∙ ap₂ (λ l m. listed (length (take 15 (drop 25 (after-second l m)))) h) e s
+third-row f g h e s t = t ∙ ap₂ (λ l m. listed (length (take sideSize (drop xiEnd (after-second l m)))) h) e s
 
-rows-are : (r : ℕ → ℕ) {a b d : List ℕ} → a ≡ listed 10 (product (r 0) (r 3)) → b ≡ listed 15 (product (r 1) (r 2)) → d ≡ listed 15 (product (r 1) (r 4))
-    → putMid 25 15 (after-second a b) d ≡ listed 40 (factorAt r)
+rows-are : (r : ℕ → ℕ) {a b d : List ℕ} → a ≡ listed pitchSize (product (r 0) (r 3)) → b ≡ listed sideSize (product (r 1) (r 2)) → d ≡ listed sideSize (product (r 1) (r 4))
+    → putMid xiEnd sideSize (after-second a b) d ≡ listed terms (factorAt r)
 unfolding listed factorAt
-rows-are r {d} e s t = ap₂ (λ l m. putMid 25 15 (after-second l m) d) e s ∙ ap (putMid 25 15 (after-second (listed 10 (product (r 0) (r 3))) (listed 15 (product (r 1) (r 2))))) t
+rows-are r {d} e s t = ap₂ (λ l m. putMid xiEnd sideSize (after-second l m) d) e s ∙ ap (putMid xiEnd sideSize (after-second (listed pitchSize (product (r 0) (r 3))) (listed sideSize (product (r 1) (r 2))))) t
 
 -- what a call asks
-fillable : (l : List ℤ) (part : List ℕ) (i j : ℕ) → Reaching l → i < 5 → j < 5 → length part ≤ 15 → mag (getD l i (pos 0)) < 2 ^ 63 → mag (getD l j (pos 0)) < 2 ^ 63
+fillable : (l : List ℤ) (part : List ℕ) (i j : ℕ) → Reaching l → i < cumulus .variables → j < cumulus .variables → length part ≤ sideSize → mag (getD l i (pos 0)) < 2 ^ 63 → mag (getD l j (pos 0)) < 2 ^ 63
     → Fillable part (toZ w64 (ofZ w64 (getD l i (pos 0)))) (toZ w64 (ofZ w64 (getD l j (pos 0))))
 unfolding below
 fillable l part i j p hi hj few fi fj =
@@ -72,24 +74,24 @@ module _ (c : tie.After-fill) where
       → listed n (product (natAbs (toZ w64 (ofZ w64 (reach i)))) (natAbs (toZ w64 (ofZ w64 (reach j))))) ≡ listed n (row i j)
   bits n i j f g = row-bits n (sfits-of {z = reach i} f) (sfits-of {z = reach j} g)
 
-  first : c .fill .last .0 ≡ listed 10 (row 0 3)
-  first = c .fill .ensures ∙ bits 10 0 3 (c .before .before .fill-arg .given) (c .before .fill-arg2 .given)
+  first : c .fill .last .0 ≡ listed pitchSize (row 0 3)
+  first = c .fill .ensures ∙ bits pitchSize 0 3 (c .before .before .fill-arg .given) (c .before .fill-arg2 .given)
 
 module _ (c : tie.After-fill2) where
   abbrev one : tie.After-fill
   one = c .before .before .before .before .before
 
-  second : c .fill2 .last .0 ≡ listed 15 (row one 1 2)
-  second = second-row (row one 0 3) _ (first one) (c .fill2 .ensures) ∙ bits one 15 1 2 (c .before .before .fill-arg3 .given) (c .before .fill-arg4 .given)
+  second : c .fill2 .last .0 ≡ listed sideSize (row one 1 2)
+  second = second-row (row one 0 3) _ (first one) (c .fill2 .ensures) ∙ bits one sideSize 1 2 (c .before .before .fill-arg3 .given) (c .before .fill-arg4 .given)
 
 module _ (c : tie.After-fill3) where
   abbrev two : tie.After-fill2
   two = c .before .before .before .before .before
 
-  third : c .fill3 .last .0 ≡ listed 15 (row (one two) 1 4)
+  third : c .fill3 .last .0 ≡ listed sideSize (row (one two) 1 4)
   third =
       third-row (row (one two) 0 3) (row (one two) 1 2) _ (first (one two)) (second two) (c .fill3 .ensures)
-      ∙ bits (one two) 15 1 4 (c .before .before .fill-arg5 .given) (c .before .fill-arg6 .given)
+      ∙ bits (one two) sideSize 1 4 (c .before .before .fill-arg5 .given) (c .before .fill-arg6 .given)
 
 sub-fill : tie.Need-sub-fill
 sub-fill c = search needs
@@ -117,7 +119,7 @@ part-f-start-2 c = search needs
 
 part-f-end-2 : tie.Need-part-f-end-2
 unfolding listed
-part-f-end-2 c = subst (λ l. 25 ≤ length (after-first l)) (sym (first (c .before))) (omega arith)
+part-f-end-2 c = subst (λ l. xiEnd ≤ length (after-first l)) (sym (first (c .before))) (omega arith)
 
 array-copy-out-fill-3 : tie.Need-array-copy-out-fill-3
 array-copy-out-fill-3 c = search needs
@@ -137,7 +139,7 @@ part-f-start-3 c = search needs
 
 part-f-end-3 : tie.Need-part-f-end-3
 unfolding listed
-part-f-end-3 c = subst (λ n. 40 ≤ n) (sym (ap₂ (λ l m. length (after-second l m)) (first (one (c .before))) (second (c .before)))) (omega arith)
+part-f-end-3 c = subst (λ n. terms ≤ n) (sym (ap₂ (λ l m. length (after-second l m)) (first (one (c .before))) (second (c .before)))) (omega arith)
 
 array-copy-out-fill-5 : tie.Need-array-copy-out-fill-5
 array-copy-out-fill-5 c = search needs
