@@ -12,7 +12,7 @@ ghost use lib.Signed.{leZ, ltZ};
 ghost use Rattle.polynomials.specs.Sum.{listed};
 ghost use Rattle.polynomials.specs.Limits.{farthest};
 ghost use Rattle.layout.specs.Shape.{cumulus, limitsLength, lowestPlace, highestPlace};
-ghost use Rattle.layout.specs.Limits.{lowest, highest, cut, inRange, allInRange, inOrder, good};
+ghost use Rattle.layout.specs.Limits.{lowest, highest, cut, longestShift, inRange, allInRange, inOrder, good};
 ghost use Rattle.layout.specs.Blocks.{piece as pieceOf};
 ghost use Rattle.layout.specs.Sound.{span, reach};
 ghost use Rattle.layout.specs.Refusals.{outside, first, _when_};
@@ -185,7 +185,7 @@ impl Limits {
 
     // The limit at a place once the datum of a variable is moved.
     fn moved_limit(self, variable: usize, shift: i64, place: usize) -> i64
-        requires { ⌜ (allInRange cumulus (self .numbers) ≡ true) × ((natAbs shift ≤ 4000) × (place < limitsLength cumulus)) ⌝ }
+        requires { ⌜ (allInRange cumulus (self .numbers) ≡ true) × ((natAbs shift ≤ longestShift) × (place < limitsLength cumulus)) ⌝ }
         ensures { λ r. ⌜ r ≡ movedLimit variable shift (self .numbers) place ⌝ }
     {
         let numbers = self.numbers;
@@ -198,7 +198,7 @@ impl Limits {
 
     // The limits with each of one variable less `shift`.
     pub fn moved(self, variable: usize, shift: i64) -> Limits
-        requires { ⌜ (allInRange cumulus (self .numbers) ≡ true) × (natAbs shift ≤ 4000) ⌝ }
+        requires { ⌜ (allInRange cumulus (self .numbers) ≡ true) × (natAbs shift ≤ longestShift) ⌝ }
         ensures { λ r. ⌜ r .numbers ≡ movedLimits cumulus variable shift (self .numbers) ⌝ }
     {
         let mut numbers: [i64; LIMITS] = [0; LIMITS];

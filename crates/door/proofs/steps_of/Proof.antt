@@ -12,7 +12,8 @@ use Rattle.polynomials.proofs.Listed.{listed-more, listed-all}
 use Rattle.layout.specs.Limits.{lowest, highest}
 use Rattle.layout.specs.Shape.{cumulus, lowestPlace, highestPlace}
 use Rattle.limits.proofs.Held.{held}
-use Rattle.limits.proofs.Ranges.{limit-near, lowest-among, highest-among}
+use Rattle.layout.proofs.LimitLaws.{range-within}
+use Rattle.limits.proofs.Among.{lowest-among, highest-among}
 use Rattle.rounding.specs.Reading.{stepOf}
 use Rattle.door.specs.Door.{floats, stepAt}
 use Rattle.door.proofs.steps_of.Statement.{statement}
@@ -53,8 +54,8 @@ step-of-requires c κs =
     let t = d .before .before .args .limits .numbers in
     let i = d .before .loop .i in
     let range = d .before .before .pre in (
-      rw (lowest-is c) (limit-near cumulus t (lowestPlace i) range (lowest-among cumulus i (d .loop-test .taken))),
-      rw (highest-is c) (limit-near cumulus t (highestPlace i) range (highest-among cumulus i (d .loop-test .taken))),
+      rw (lowest-is c) (range-within cumulus t range (lowestPlace i) (lowest-among cumulus i (d .loop-test .taken))),
+      rw (highest-is c) (range-within cumulus t range (highestPlace i) (highest-among cumulus i (d .loop-test .taken))),
     )
 
 mul-steps : tie.Need-mul-steps Inv-loop μ-loop

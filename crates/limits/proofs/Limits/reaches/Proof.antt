@@ -8,6 +8,7 @@ use lib.IntN.{ℤ, pos}
 use lib.ListN.{length, take, length-set}
 use Rattle.polynomials.specs.Sum.{listed}
 use Rattle.polynomials.proofs.Listed.{listed-more, listed-all}
+use Rattle.layout.specs.Shape.{cumulus}
 use Rattle.layout.specs.Blocks.{piece as pieceOf}
 use Rattle.layout.specs.Sound.{reach}
 use Rattle.limits.proofs.Held.{held}
@@ -16,10 +17,10 @@ use Rattle.limits.proofs.Limits.reaches.Tie as tie
 
 abbrev Inv-loop : tie.InvT-loop
 Inv-loop self piece reaches₀ i₀ reaches i =
-    (i ≤ 5) × (length reaches ≡ 5) × (take i reaches ≡ listed i (λ j. pos (reach (self .numbers) (pieceOf piece) j)))
+    (i ≤ cumulus .variables) × (length reaches ≡ cumulus .variables) × (take i reaches ≡ listed i (λ j. pos (reach (self .numbers) (pieceOf piece) j)))
 
 abbrev μ-loop : tie.MeasureT-loop
-μ-loop self piece reaches₀ i₀ reaches i = 5 - i
+μ-loop self piece reaches₀ i₀ reaches i = cumulus .variables - i
 
 abbrev target : (c : tie.Start Inv-loop μ-loop) → ℕ → ℤ
 target c i = pos (reach (c .args .self .numbers) (pieceOf (c .args .piece)) i)
@@ -55,7 +56,7 @@ loop-again c =
 returns : tie.Need-returns Inv-loop μ-loop
 returns c =
     let l = c .before .loop in
-    listed-all (l .reaches) (target (c .before .before)) (l .i) 5 (l .inv .1) (omega (arith, l .inv .0, c .loop-test .left)) (l .inv .2)
+    listed-all (l .reaches) (target (c .before .before)) (l .i) (cumulus .variables) (l .inv .1) (omega (arith, l .inv .0, c .loop-test .left)) (l .inv .2)
 
 pub reaches-spec : {M : Type 1} → statement M
 reaches-spec =
