@@ -43,8 +43,8 @@ use Rattle.door.proofs.Firsts.{Found, none, at, found}
 use Rattle.door.proofs.Numbers.{refusedNotFinite, refusedOutside, named-not-finite, named-outside, past-finite, back-below, back-above, back-given, zero-refused, value-done, reading-is}
 use Rattle.door.proofs.Told.{not-finite-told, outside-told, outside-step, number-step, first-same, outside-found}
 
--- the tests of the table give none of the numbers from 11
-past-tests : (a b c : Bool) (n i : ℕ) → cond a wrongTable (cond b badLimits (cond c tooHeavy n)) ≡ 11 + i → n ≡ 11 + i
+-- the tests of the table give no number of a reading outside
+past-tests : (a b c : Bool) (n i : ℕ) → cond a wrongTable (cond b badLimits (cond c tooHeavy n)) ≡ outside i → n ≡ outside i
 past-tests true b c n i e = absurd (omega arith)
 past-tests false true c n i e = absurd (omega arith)
 past-tests false false true n i e = absurd (omega arith)
@@ -57,25 +57,26 @@ module _ (t : List ℤ) (x : ℕ → Float) where
   abbrev plainOutside : ℕ → Refusal
   plainOutside i = outside i when not (inside t (roundedAll x) i)
 
-  not-finites-same : first (notFinites 5 (stepAt t x)) ≡ first (listed 5 plainNotFinite)
-  not-finites-same =
-      first-same (refusedNotFinite (stepAt t x)) plainNotFinite 5 (λ i h. not-finite-told (x i) (lowest t i) (highest t i)) (λ i e. named-not-finite i (stepAt t x i) e)
+  module _ (n : ℕ) where
+    not-finites-same : first (notFinites n (stepAt t x)) ≡ first (listed n plainNotFinite)
+    not-finites-same =
+        first-same (refusedNotFinite (stepAt t x)) plainNotFinite n (λ i h. not-finite-told (x i) (lowest t i) (highest t i)) (λ i e. named-not-finite i (stepAt t x i) e)
 
-  outsides-same : ((i : ℕ) → i < 5 → finite (x i) ≡ true) → first (outsides 5 (stepAt t x)) ≡ first (listed 5 plainOutside)
-  outsides-same f =
-      first-same (refusedOutside (stepAt t x)) plainOutside 5 (λ i h. outside-told (x i) (lowest t i) (highest t i) (f i h)) (λ i e. named-outside i (stepAt t x i) e)
+    outsides-same : ((i : ℕ) → i < n → finite (x i) ≡ true) → first (outsides n (stepAt t x)) ≡ first (listed n plainOutside)
+    outsides-same f =
+        first-same (refusedOutside (stepAt t x)) plainOutside n (λ i h. outside-told (x i) (lowest t i) (highest t i) (f i h)) (λ i e. named-outside i (stepAt t x i) e)
 
-  tested : first (notFinites 5 (stepAt t x) ++ outsides 5 (stepAt t x)) ≡ first (listed 5 plainNotFinite ++ listed 5 plainOutside)
-  tested = go (found plainNotFinite 5)
-    where
-      go : Found plainNotFinite 5 → first (notFinites 5 (stepAt t x) ++ outsides 5 (stepAt t x)) ≡ first (listed 5 plainNotFinite ++ listed 5 plainOutside)
-      go (none all) =
-          past-finite (stepAt t x) 5 (not-finites-same ∙ first-none plainNotFinite 5 all) ∙ outsides-same (λ i h. not-false (finite (x i)) (all i h))
-          ∙ sym (first-past plainNotFinite 5 all (listed 5 plainOutside))
-      go (at k b before one) =
-          let apart : first (listed 5 plainNotFinite) ≡ 0 → ⊥ = λ z. omega (arith, first-at plainNotFinite k before one 5 b) in
-          first-apart (notFinites 5 (stepAt t x)) (outsides 5 (stepAt t x)) (λ z. apart (sym not-finites-same ∙ z)) ∙ not-finites-same
-          ∙ sym (first-apart (listed 5 plainNotFinite) (listed 5 plainOutside) apart)
+    tested : first (notFinites n (stepAt t x) ++ outsides n (stepAt t x)) ≡ first (listed n plainNotFinite ++ listed n plainOutside)
+    tested = go (found plainNotFinite n)
+      where
+        go : Found plainNotFinite n → first (notFinites n (stepAt t x) ++ outsides n (stepAt t x)) ≡ first (listed n plainNotFinite ++ listed n plainOutside)
+        go (none all) =
+            past-finite (stepAt t x) n (not-finites-same ∙ first-none plainNotFinite n all) ∙ outsides-same (λ i h. not-false (finite (x i)) (all i h))
+            ∙ sym (first-past plainNotFinite n all (listed n plainOutside))
+        go (at k b before one) =
+            let apart : first (listed n plainNotFinite) ≡ 0 → ⊥ = λ z. omega (arith, first-at plainNotFinite k before one n b) in
+            first-apart (notFinites n (stepAt t x)) (outsides n (stepAt t x)) (λ z. apart (sym not-finites-same ∙ z)) ∙ not-finites-same
+            ∙ sym (first-apart (listed n plainNotFinite) (listed n plainOutside) apart)
 
   -- The number is the first of these: the table's length, its limits, its weights, then over all five a float that is not finite, then a rounded
   -- reading outside its limits.
@@ -84,10 +85,10 @@ module _ (t : List ℤ) (x : ℕ → Float) where
       ((wrongTable when not (eqb (length t) (tableLength cumulus)))
       ∷ (badLimits when not (good cumulus t))
       ∷ (tooHeavy when not (light cumulus t))
-      ∷ (listed 5 (λ i. notFinite i when not (finite (x i))) ++ listed 5 (λ i. outside i when not (inside t (roundedAll x) i))))
+      ∷ (listed (cumulus .variables) (λ i. notFinite i when not (finite (x i))) ++ listed (cumulus .variables) (λ i. outside i when not (inside t (roundedAll x) i))))
   unfolding doorNumber first
   number-told =
-      ap (λ n. cond (not (eqb (length t) (tableLength cumulus))) wrongTable (cond (not (good cumulus t)) badLimits (cond (not (light cumulus t)) tooHeavy n))) tested
+      ap (λ n. cond (not (eqb (length t) (tableLength cumulus))) wrongTable (cond (not (good cumulus t)) badLimits (cond (not (light cumulus t)) tooHeavy n))) (tested (cumulus .variables))
 
   -- Each finite reading is rounded to a whole number within a half of its exact value, which is even where it lies just a half away.
   pub rounded-nearest : (i : ℕ) → IsNearest (numerator (x i)) (denominator (x i)) (roundedAll x i)
@@ -95,25 +96,25 @@ module _ (t : List ℤ) (x : ℕ → Float) where
 
   -- six zeros, as the whole-number read is given them
   abbrev zeros : List ℤ
-  zeros = listed 6 (λ b. pos 0)
+  zeros = listed (cumulus .blocks) (λ b. pos 0)
 
-  getD-values : (b : ℕ) → b < 6 → getD (values cumulus t (roundedAll x)) b (pos 0) ≡ total (coefficient cumulus t b (pieceAt t (roundedAll x))) (roundedAll x)
+  getD-values : (b : ℕ) → b < cumulus .blocks → getD (values cumulus t (roundedAll x)) b (pos 0) ≡ total (coefficient cumulus t b (pieceAt t (roundedAll x))) (roundedAll x)
   unfolding values
-  getD-values b h = getD-listed 6 (λ k. total (coefficient cumulus t k (pieceAt t (roundedAll x))) (roundedAll x)) b (pos 0) h
+  getD-values b h = getD-listed (cumulus .blocks) (λ k. total (coefficient cumulus t k (pieceAt t (roundedAll x))) (roundedAll x)) b (pos 0) h
 
-  module _ (f : (i : ℕ) → i < 5 → finite (x i) ≡ true) where
+  module _ (f : (i : ℕ) → i < cumulus .variables → finite (x i) ≡ true) where
     -- Five finite readings are given the number of the whole-number read at the rounded readings.
     pub number-read : doorNumber cumulus t x ≡ readNumber cumulus t (roundedAll x) zeros
     unfolding doorNumber readNumber first
     number-read =
         let rest : ℕ → ℕ = λ n. cond (not (good cumulus t)) badLimits (cond (not (light cumulus t)) tooHeavy n) in
         ap (λ n. cond (not (eqb (length t) (tableLength cumulus))) wrongTable (rest n))
-        (past-finite (stepAt t x) 5 (not-finites-same ∙ first-none plainNotFinite 5 (λ i h. ap not (f i h))) ∙ outsides-same f)
-        ∙ ap (λ q. cond (not (eqb (length t) (tableLength cumulus))) wrongTable (cond (not q) wrongOutput (rest (first (listed 5 plainOutside)))))
-        (sym (eq-eqb (length zeros) 6 (length-listed 6 (λ b. pos 0))))
+        (past-finite (stepAt t x) (cumulus .variables) (not-finites-same (cumulus .variables) ∙ first-none plainNotFinite (cumulus .variables) (λ i h. ap not (f i h))) ∙ outsides-same (cumulus .variables) f)
+        ∙ ap (λ q. cond (not (eqb (length t) (tableLength cumulus))) wrongTable (cond (not q) wrongOutput (rest (first (listed (cumulus .variables) plainOutside)))))
+        (sym (eq-eqb (length zeros) (cumulus .blocks) (length-listed (cumulus .blocks) (λ b. pos 0))))
 
     -- And each of the six floats is that of the number which the whole-number read leaves in six zeros.
-    pub value-read : (b : ℕ) → b < 6 → doorValue cumulus t x b ≡ floatOf (getD (readOutput cumulus t (roundedAll x) zeros) b (pos 0))
+    pub value-read : (b : ℕ) → b < cumulus .blocks → doorValue cumulus t x b ≡ floatOf (getD (readOutput cumulus t (roundedAll x) zeros) b (pos 0))
     value-read b h = go (decLt 0 (doorNumber cumulus t x))
       where
         go : Dec (0 < doorNumber cumulus t x) → doorValue cumulus t x b ≡ floatOf (getD (readOutput cumulus t (roundedAll x) zeros) b (pos 0))
@@ -121,7 +122,7 @@ module _ (t : List ℤ) (x : ℕ → Float) where
             let e : doorNumber cumulus t x ≡ 0 = omega arith in
             value-done t x e b ∙ ap floatOf (sym (getD-values b h)) ∙ ap (λ l. floatOf (getD l b (pos 0))) (sym (read-given cumulus t (roundedAll x) zeros (sym number-read ∙ e)))
         go (yes n) =
-            zero-refused t x (doorNumber cumulus t x) refl n b ∙ sym zero-positive ∙ ap floatOf (sym (getD-listed 6 (λ k. pos 0) b (pos 0) h))
+            zero-refused t x (doorNumber cumulus t x) refl n b ∙ sym zero-positive ∙ ap floatOf (sym (getD-listed (cumulus .blocks) (λ k. pos 0) b (pos 0) h))
             ∙ ap (λ l. floatOf (getD l b (pos 0))) (sym (read-kept cumulus t (roundedAll x) zeros (sym number-read) n))
 
   -- On a refusal the six are positive zero.
@@ -129,20 +130,20 @@ module _ (t : List ℤ) (x : ℕ → Float) where
   zero-on-refusal h = zero-refused t x (doorNumber cumulus t x) refl (omega (arith, h))
 
   -- Where the reading of variable i is refused as outside, its step carries it as given, and hands it back.
-  pub reading-step : (i : ℕ) → i < 5 → doorNumber cumulus t x ≡ outside i → (stepAt t x i ≡ Outside (x i)) × (doorReading cumulus t x ≡ handedBack (stepAt t x i))
+  pub reading-step : (i : ℕ) → i < cumulus .variables → doorNumber cumulus t x ≡ outside i → (stepAt t x i ≡ Outside (x i)) × (doorReading cumulus t x ≡ handedBack (stepAt t x i))
   unfolding doorNumber first
   reading-step i h e =
-      let step = outside-found (stepAt t x) i h (past-tests (not (eqb (length t) (tableLength cumulus))) (not (good cumulus t)) (not (light cumulus t)) _ i e) in
-      (outside-step (x i) (lowest t i) (highest t i) step, reading-is t x (11 + i) e ∙ back-given (stepAt t x) i h)
+      let step = outside-found (stepAt t x) (cumulus .variables) i (omega arith) (past-tests (not (eqb (length t) (tableLength cumulus))) (not (good cumulus t)) (not (light cumulus t)) _ i e) in
+      (outside-step (x i) (lowest t i) (highest t i) step, reading-is t x (outside i) e ∙ back-given (stepAt t x) i h)
 
   -- With every other number, 0 included, positive zero is handed back.
-  pub reading-elsewhere : ((i : ℕ) → i < 5 → doorNumber cumulus t x ≡ outside i → ⊥) → doorReading cumulus t x ≡ positiveZero
-  reading-elsewhere h = reading-is t x (doorNumber cumulus t x) refl ∙ go (decLt (doorNumber cumulus t x) 11) (decLt (doorNumber cumulus t x) 16)
+  pub reading-elsewhere : ((i : ℕ) → i < cumulus .variables → doorNumber cumulus t x ≡ outside i → ⊥) → doorReading cumulus t x ≡ positiveZero
+  reading-elsewhere h = reading-is t x (doorNumber cumulus t x) refl ∙ go (decLt (doorNumber cumulus t x) (outside 0)) (decLt (doorNumber cumulus t x) (outside (cumulus .variables)))
     where
-      go : Dec (doorNumber cumulus t x < 11) → Dec (doorNumber cumulus t x < 16) → readingFor cumulus (stepAt t x) (doorNumber cumulus t x) ≡ positiveZero
+      go : Dec (doorNumber cumulus t x < outside 0) → Dec (doorNumber cumulus t x < outside (cumulus .variables)) → readingFor cumulus (stepAt t x) (doorNumber cumulus t x) ≡ positiveZero
       go (yes a) b = back-below (stepAt t x) (doorNumber cumulus t x) a
       go (no a) (no b) = back-above (stepAt t x) (doorNumber cumulus t x) (omega arith)
-      go (no a) (yes b) = absurd (h (doorNumber cumulus t x - 11) (omega arith) (omega arith))
+      go (no a) (yes b) = absurd (h (doorNumber cumulus t x - outside 0) (omega arith) (omega arith))
 
   -- None of the seven floats is a NaN.
   pub value-number : (b : ℕ) → isNan (doorValue cumulus t x b) ≡ false
@@ -155,7 +156,7 @@ module _ (t : List ℤ) (x : ℕ → Float) where
 
   pub reading-number : isNan (doorReading cumulus t x) ≡ false
   unfolding doorReading isNan
-  reading-number = go (forOutside cumulus (doorNumber cumulus t x)) (doorNumber cumulus t x - 11)
+  reading-number = go (forOutside cumulus (doorNumber cumulus t x)) (doorNumber cumulus t x - outside 0)
     where
       go : (c : Bool) (i : ℕ) → isNan (cond c (handedBack (stepAt t x i)) positiveZero) ≡ false
       go true i = number-step (x i) (lowest t i) (highest t i)

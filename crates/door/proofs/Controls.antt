@@ -17,7 +17,7 @@ limits = negsuc 149 ∷ pos 313 ∷ pos 1000 ∷ negsuc 499 ∷ pos 500 ∷ negs
 
 unfoldable number : List ℕ → ℕ
 unfolding limits ofBits rounded nearestWhole wholeOf stepOf listed first
-number l = let s = stepAt limits (floats (map (ofBits binary64) l)) in first (notFinites 5 s ++ outsides 5 s)
+number l = let s = stepAt limits (floats (map (ofBits binary64) l)) in first (notFinites (cumulus .variables) s ++ outsides (cumulus .variables) s)
 
 unfoldable back : List ℕ → Float
 unfolding limits ofBits rounded nearestWhole wholeOf stepOf

@@ -47,10 +47,10 @@ module _ (s : ℕ → Step) where
   refusedOutside i = numberOf i (s i) when isOutside (s i)
 
   module _ (n : ℕ) where
-    pub not-finite-number : (first (notFinites n s) ≡ 0 → ⊥) → 21 ≤ first (notFinites n s)
+    pub not-finite-number : (first (notFinites n s) ≡ 0 → ⊥) → notFinite 0 ≤ first (notFinites n s)
     not-finite-number h = go (found refusedNotFinite n)
       where
-        go : Found refusedNotFinite n → 21 ≤ first (notFinites n s)
+        go : Found refusedNotFinite n → notFinite 0 ≤ first (notFinites n s)
         go (none all) = absurd (h (first-none refusedNotFinite n all))
         go (at k b before one) = omega (arith, first-at refusedNotFinite k before one n b, named-not-finite k (s k) one)
 
@@ -76,39 +76,39 @@ module _ (s : ℕ → Step) where
   shut true = refl
   shut false = refl
 
-  with-test : (n : ℕ) {b : Bool} → forOutside cumulus n ≡ b → readingFor cumulus s n ≡ cond b (handedBack (s (n - 11))) positiveZero
-  with-test n e = ap (λ b. cond b (handedBack (s (n - 11))) positiveZero) e
+  with-test : (n : ℕ) {b : Bool} → forOutside cumulus n ≡ b → readingFor cumulus s n ≡ cond b (handedBack (s (n - outside 0))) positiveZero
+  with-test n e = ap (λ b. cond b (handedBack (s (n - outside 0))) positiveZero) e
 
-  pub back-below : (n : ℕ) → n < 11 → readingFor cumulus s n ≡ positiveZero
-  back-below n h = with-test n (ap (λ b. b && ltb n 16) (lt-leb 11 n h))
+  pub back-below : (n : ℕ) → n < outside 0 → readingFor cumulus s n ≡ positiveZero
+  back-below n h = with-test n (ap (λ b. b && ltb n (outside (cumulus .variables))) (lt-leb (outside 0) n h))
 
-  pub back-above : (n : ℕ) → 16 ≤ n → readingFor cumulus s n ≡ positiveZero
-  back-above n h = with-test n (ap (λ b. leb 11 n && b) (le-ltb n 16 h) ∙ shut (leb 11 n))
+  pub back-above : (n : ℕ) → outside (cumulus .variables) ≤ n → readingFor cumulus s n ≡ positiveZero
+  back-above n h = with-test n (ap (λ b. leb (outside 0) n && b) (le-ltb n (outside (cumulus .variables)) h) ∙ shut (leb (outside 0) n))
 
-  pub back-given : (k : ℕ) → k < 5 → readingFor cumulus s (11 + k) ≡ handedBack (s k)
+  pub back-given : (k : ℕ) → k < cumulus .variables → readingFor cumulus s (outside k) ≡ handedBack (s k)
   back-given k h =
-      let e : (11 + k) - 11 ≡ k = omega arith in
-      with-test (11 + k) (ap₂ _&&_ (le-leb 11 (11 + k) (omega arith)) (lt-ltb (11 + k) 16 (omega arith))) ∙ ap (λ j. handedBack (s j)) e
+      let e : outside k - outside 0 ≡ k = omega arith in
+      with-test (outside k) (ap₂ _&&_ (le-leb (outside 0) (outside k) (omega arith)) (lt-ltb (outside k) (outside (cumulus .variables)) (omega arith))) ∙ ap (λ j. handedBack (s j)) e
 
 -- it is that of one of the five variables
-pub back-agreed : (s r : ℕ → Step) → ((i : ℕ) → i < 5 → s i ≡ r i) → (n : ℕ) → readingFor cumulus s n ≡ readingFor cumulus r n
-back-agreed s r h n = go (decLt n 11) (decLt n 16)
+pub back-agreed : (s r : ℕ → Step) → ((i : ℕ) → i < cumulus .variables → s i ≡ r i) → (n : ℕ) → readingFor cumulus s n ≡ readingFor cumulus r n
+back-agreed s r h n = go (decLt n (outside 0)) (decLt n (outside (cumulus .variables)))
   where
-    go : Dec (n < 11) → Dec (n < 16) → readingFor cumulus s n ≡ readingFor cumulus r n
+    go : Dec (n < outside 0) → Dec (n < outside (cumulus .variables)) → readingFor cumulus s n ≡ readingFor cumulus r n
     go (yes b) e = back-below s n b ∙ sym (back-below r n b)
     go (no a) (yes b) =
-        let q : n ≡ 11 + (n - 11) = omega arith in
-        ap (readingFor cumulus s) q ∙ back-given s (n - 11) (omega arith) ∙ ap handedBack (h (n - 11) (omega arith)) ∙ sym (back-given r (n - 11) (omega arith)) ∙ ap (readingFor cumulus r) (sym q)
+        let q : n ≡ outside (n - outside 0) = omega arith in
+        ap (readingFor cumulus s) q ∙ back-given s (n - outside 0) (omega arith) ∙ ap handedBack (h (n - outside 0) (omega arith)) ∙ sym (back-given r (n - outside 0) (omega arith)) ∙ ap (readingFor cumulus r) (sym q)
     go (no a) (no b) = back-above s n (omega arith) ∙ sym (back-above r n (omega arith))
 
 -- ---- the number
-small : (g l : Bool) → first ((badLimits when not g) ∷ (tooHeavy when not l) ∷ []) < 11
+small : (g l : Bool) → first ((badLimits when not g) ∷ (tooHeavy when not l) ∷ []) < outside 0
 unfolding first
 small false l = omega arith
 small true false = omega arith
 small true true = omega arith
 
-pub unsound-small : (t : List ℤ) → first (unsound t) < 11
+pub unsound-small : (t : List ℤ) → first (unsound t) < outside 0
 unsound-small t = small (good cumulus t) (light cumulus t)
 
 module _ (t : List ℤ) (x : ℕ → Float) where
@@ -120,9 +120,9 @@ module _ (t : List ℤ) (x : ℕ → Float) where
     pub door-unsound : (n : ℕ) → n ≡ first (unsound t) → (n ≡ 0 → ⊥) → doorNumber cumulus t x ≡ n
     unfolding doorNumber
     door-unsound n e h =
-        first-skip wrongTable _ (eq-eqb (length t) (tableLength cumulus) a) ∙ first-apart (unsound t) (notFinites 5 (stepAt t x) ++ outsides 5 (stepAt t x)) (λ z. h (e ∙ z)) ∙ sym e
+        first-skip wrongTable _ (eq-eqb (length t) (tableLength cumulus) a) ∙ first-apart (unsound t) (notFinites (cumulus .variables) (stepAt t x) ++ outsides (cumulus .variables) (stepAt t x)) (λ z. h (e ∙ z)) ∙ sym e
 
-    pub door-sound : (good cumulus t ≡ true) × (light cumulus t ≡ true) → doorNumber cumulus t x ≡ first (notFinites 5 (stepAt t x) ++ outsides 5 (stepAt t x))
+    pub door-sound : (good cumulus t ≡ true) × (light cumulus t ≡ true) → doorNumber cumulus t x ≡ first (notFinites (cumulus .variables) (stepAt t x) ++ outsides (cumulus .variables) (stepAt t x))
     unfolding doorNumber
     door-sound g = first-skip wrongTable _ (eq-eqb (length t) (tableLength cumulus) a) ∙ first-skip badLimits _ (g .0) ∙ first-skip tooHeavy _ (g .1)
 

@@ -16,14 +16,14 @@ use lib.Signed.{leZ}
 use lib.Ieee.{Float, nan, inf, fin, isNan}
 use lib.Ieee.Scale.{finite}
 use Rattle.polynomials.specs.Sum.{listed}
-use Rattle.layout.specs.Refusals.{Refusal, first}
+use Rattle.layout.specs.Refusals.{Refusal, first, outside}
 use Rattle.limits.proofs.Firsts.{first-none, first-at}
 use Rattle.tables.proofs.Steps.{first-apart}
 use Rattle.rounding.specs.Reading.{wholeOf, stepOf}
 use Rattle.rounding.specs.declared.Step.{Step}
 use Rattle.rounding.specs.declared.Step.the-variants.{Whole, Outside}
-use Rattle.rounding.proofs.Steps.{Stepped, not-finite, outside, whole, stepped}
-use Rattle.door.specs.Steps.{handedBack, isNotFinite, isOutside}
+use Rattle.rounding.proofs.Steps.{Stepped, is-not-finite, is-outside, is-whole, stepped}
+use Rattle.door.specs.Steps.{notFinite, handedBack, isNotFinite, isOutside}
 use Rattle.door.specs.Door.{notFinites, outsides}
 use Rattle.door.proofs.Firsts.{Found, none, at, found}
 use Rattle.door.proofs.Numbers.{refusedOutside, named-outside, not-finite-number, past-finite}
@@ -50,9 +50,9 @@ outside-told (inf s) lowest highest f = absurd (true≢false (sym f))
 outside-told (fin s m e) lowest highest f = chosen-outside (leZ lowest (wholeOf (fin s m e)) && leZ (wholeOf (fin s m e)) highest) (wholeOf (fin s m e)) (fin s m e)
 
 carried : (x : Float) (lowest highest : ℤ) (r : Step) → Stepped x lowest highest r → isOutside r ≡ true → r ≡ Outside x
-carried x lowest highest r (not-finite n) e = absurd (true≢false (sym e))
-carried x lowest highest r (outside f p) e = refl
-carried x lowest highest r (whole f l g) e = absurd (true≢false (sym e))
+carried x lowest highest r (is-not-finite n) e = absurd (true≢false (sym e))
+carried x lowest highest r (is-outside f p) e = refl
+carried x lowest highest r (is-whole f l g) e = absurd (true≢false (sym e))
 
 pub outside-step : (x : Float) (lowest highest : ℤ) → isOutside (stepOf x lowest highest) ≡ true → stepOf x lowest highest ≡ Outside x
 outside-step x lowest highest = carried x lowest highest (stepOf x lowest highest) (stepped x lowest highest)
@@ -65,9 +65,9 @@ finite-number (fin s m e) f = refl
 
 back-number : (x : Float) (lowest highest : ℤ) (r : Step) → Stepped x lowest highest r → isNan (handedBack r) ≡ false
 unfolding isNan
-back-number x lowest highest r (not-finite n) = refl
-back-number x lowest highest r (outside f p) = finite-number x f
-back-number x lowest highest r (whole f l g) = refl
+back-number x lowest highest r (is-not-finite n) = refl
+back-number x lowest highest r (is-outside f p) = finite-number x f
+back-number x lowest highest r (is-whole f l g) = refl
 
 pub number-step : (x : Float) (lowest highest : ℤ) → isNan (handedBack (stepOf x lowest highest)) ≡ false
 number-step x lowest highest = back-number x lowest highest (stepOf x lowest highest) (stepped x lowest highest)
@@ -82,24 +82,24 @@ first-same f g n h e = go (found f n)
     go (at k b before one) =
         first-at f k before one n b ∙ e k one ∙ sym (first-at g k (λ i m. sym (h i (omega arith)) ∙ before i m) (sym (h k b) ∙ one) n b)
 
-module _ (s : ℕ → Step) (i : ℕ) (h : i < 5) (e : first (notFinites 5 s ++ outsides 5 s) ≡ 11 + i) where
-  all-finite : first (notFinites 5 s) ≡ 0
-  all-finite = go (decLt 0 (first (notFinites 5 s)))
+module _ (s : ℕ → Step) (n i : ℕ) (h : outside i < notFinite 0) (e : first (notFinites n s ++ outsides n s) ≡ outside i) where
+  all-finite : first (notFinites n s) ≡ 0
+  all-finite = go (decLt 0 (first (notFinites n s)))
     where
-      go : Dec (0 < first (notFinites 5 s)) → first (notFinites 5 s) ≡ 0
+      go : Dec (0 < first (notFinites n s)) → first (notFinites n s) ≡ 0
       go (no b) = omega arith
       go (yes b) =
-          let apart : first (notFinites 5 s) ≡ 0 → ⊥ = λ z. omega arith in
-          absurd (omega (arith, first-apart (notFinites 5 s) (outsides 5 s) apart, not-finite-number s 5 apart))
+          let apart : first (notFinites n s) ≡ 0 → ⊥ = λ z. omega arith in
+          absurd (omega (arith, first-apart (notFinites n s) (outsides n s) apart, not-finite-number s n apart))
 
   pub outside-found : isOutside (s i) ≡ true
-  outside-found = go (found (refusedOutside s) 5)
+  outside-found = go (found (refusedOutside s) n)
     where
-      number : first (outsides 5 s) ≡ 11 + i
-      number = sym (past-finite s 5 all-finite) ∙ e
+      number : first (outsides n s) ≡ outside i
+      number = sym (past-finite s n all-finite) ∙ e
 
-      go : Found (refusedOutside s) 5 → isOutside (s i) ≡ true
-      go (none all) = absurd (omega (arith, number, first-none (refusedOutside s) 5 all))
+      go : Found (refusedOutside s) n → isOutside (s i) ≡ true
+      go (none all) = absurd (omega (arith, number, first-none (refusedOutside s) n all))
       go (at k b before one) =
-          let q : k ≡ i = omega (arith, number, first-at (refusedOutside s) k before one 5 b, named-outside k (s k) one) in
+          let q : k ≡ i = omega (arith, number, first-at (refusedOutside s) k before one n b, named-outside k (s k) one) in
           subst (λ j. isOutside (s j) ≡ true) q one

@@ -23,7 +23,7 @@ use Rattle.blocks.proofs.Parts.{coefficient-parts}
 use Rattle.rounding.specs.Reading.{wholeOf}
 use Rattle.rounding.specs.declared.Step.{Step}
 use Rattle.rounding.specs.declared.Step.the-variants.{Whole}
-use Rattle.rounding.proofs.Steps.{Stepped, not-finite, outside, whole, stepped}
+use Rattle.rounding.proofs.Steps.{Stepped, is-not-finite, is-outside, is-whole, stepped}
 use Rattle.door.specs.Steps.{isNotFinite, isOutside}
 use Rattle.door.specs.Door.{roundedAll, stepAt, notFinites, outsides}
 use Rattle.door.proofs.Numbers.{none-not-finite, none-outside}
@@ -34,15 +34,15 @@ pub record Rounded (x : Float) (lowest highest : ℤ) (r : Step) : Type 0 where
   pub high : wholeOf x ≤ℤ highest
 
 pub whole-step : (x : Float) (lowest highest : ℤ) (r : Step) → Stepped x lowest highest r → isNotFinite r ≡ false → isOutside r ≡ false → Rounded x lowest highest r
-whole-step x lowest highest r (not-finite n) a b = absurd (true≢false a)
-whole-step x lowest highest r (outside f p) a b = absurd (true≢false b)
-whole-step x lowest highest r (whole f l g) a b = record { is = refl; low = l; high = g }
+whole-step x lowest highest r (is-not-finite n) a b = absurd (true≢false a)
+whole-step x lowest highest r (is-outside f p) a b = absurd (true≢false b)
+whole-step x lowest highest r (is-whole f l g) a b = record { is = refl; low = l; high = g }
 
-module _ (t : List ℤ) (x : ℕ → Float) (finite : first (notFinites 5 (stepAt t x)) ≡ 0) (within : first (outsides 5 (stepAt t x)) ≡ 0) (i : ℕ) (h : i < 5) where
+module _ (t : List ℤ) (x : ℕ → Float) (finite : first (notFinites (cumulus .variables) (stepAt t x)) ≡ 0) (within : first (outsides (cumulus .variables) (stepAt t x)) ≡ 0) (i : ℕ) (h : i < cumulus .variables) where
   rounded : Rounded (x i) (lowest t i) (highest t i) (stepAt t x i)
   rounded =
-      whole-step (x i) (lowest t i) (highest t i) (stepAt t x i) (stepped (x i) (lowest t i) (highest t i)) (none-not-finite (stepAt t x) 5 finite i h)
-      (none-outside (stepAt t x) 5 within i h)
+      whole-step (x i) (lowest t i) (highest t i) (stepAt t x i) (stepped (x i) (lowest t i) (highest t i)) (none-not-finite (stepAt t x) (cumulus .variables) finite i h)
+      (none-outside (stepAt t x) (cumulus .variables) within i h)
 
   pub step-whole : stepAt t x i ≡ Whole (roundedAll x i)
   step-whole = rounded .is
@@ -51,7 +51,7 @@ module _ (t : List ℤ) (x : ℕ → Float) (finite : first (notFinites 5 (stepA
   rounded-inside = &&-both (fact-leZ (rounded .low)) (fact-leZ (rounded .high))
 
 -- ---- the five variables
-module _ (w v : ℕ → ℤ) (h : (i : ℕ) → i < 5 → w i ≡ v i) where
+module _ (w v : ℕ → ℤ) (h : (i : ℕ) → i < cumulus .variables → w i ≡ v i) where
   three-agreed : (k l m : List ℤ) → total (grouped 0 3 k ∷ grouped 1 2 l ∷ grouped 1 4 m ∷ []) w ≡ total (grouped 0 3 k ∷ grouped 1 2 l ∷ grouped 1 4 m ∷ []) v
   unfolding total
   three-agreed k l m =

@@ -6,10 +6,10 @@
 --   placed-bits, heaviest-bits   the same by the bits of the reaches
 --   placed-at     a group at two of the reaches
 --   all-within    where the groups' weights are within the cap together, so is every coefficient
-use mathlib.Core.Path.{_≡_, refl, sym, _∙_, ap, ap₂, subst}
-use mathlib.Core.Bool.{Bool, true}
+use mathlib.Core.Path.{_≡_, sym, _∙_, ap, ap₂, subst}
+use mathlib.Core.Bool.{true}
 use mathlib.Core.List.{List}
-use Prim.Native.Nat.{ℕ, zero, suc, _+_, _*_, _^_, _≤_, _<_}
+use Prim.Native.Nat.{ℕ, zero, suc, _+_, _^_, _≤_, _<_}
 use native.Mathlib.Nat as N
 use native.Mathlib.Omega.{arith}
 use native.Mathlib.Decide.{decLt}
@@ -25,7 +25,6 @@ use mir.Facts.{toZ-ofZ}
 use Rattle.whole.proofs.Machine.{sfits-bound}
 use lib.Seq.{getD-set-same, getD-set-other}
 use Rattle.polynomials.specs.Numbers.{nats}
-use Rattle.polynomials.specs.Sum.{sum}
 use Rattle.polynomials.specs.Order.{powers}
 use Rattle.polynomials.specs.Group.{term, evaluated}
 use Rattle.polynomials.specs.Groups.{totalWeight}

@@ -1,4 +1,4 @@
--- What a float within 2001 is read as, by its sign, from its rounded magnitude.
+-- What a near float is read as, by its sign, from its rounded magnitude.
 --   nearest-neg               a fraction below zero, by its magnitude
 --   Below, below-zero         a float below zero, where the code rounds -x
 --   positive-of, above-zero   a float above zero
@@ -15,7 +15,7 @@ use lib.Ieee.Positive.{num, den, positive, first-pos}
 use borrow.Author.Tests.{ltb-true, ltb-false}
 use Rattle.rounding.specs.Nearest.{rounded, nearestWhole}
 use Rattle.rounding.specs.Reading.{wholeOf}
-use Rattle.rounding.specs.Ready.{Near}
+use Rattle.rounding.specs.Ready.{farthestNear, Near}
 use Rattle.rounding.proofs.Sides.{rounded-nil}
 
 pub nearest-neg : (a b : ℕ) → 0 < a → nearestWhole (negℤ (pos a)) b ≡ negℤ (pos (rounded a b))
@@ -29,7 +29,7 @@ origin = fin false 0 (pos 0)
 -- ════ below zero
 pub record Below (x : Float) : Type 0 where
   pub turned : T (positive (neg x))
-  pub small : num (neg x) ≤ 2001 * den (neg x)
+  pub small : num (neg x) ≤ farthestNear * den (neg x)
   pub is : negℤ (pos (rounded (num (neg x)) (den (neg x)))) ≡ wholeOf x
 
 pub below-zero : (x : Float) → Near x → lt x origin ≡ true → Below x

@@ -75,9 +75,9 @@ module _ (x : Float) (lowest highest : ℤ) (f : T (finite x)) where
 -- ════ what the step tells
 -- the reading's place, for each answer
 pub data Stepped (x : Float) (lowest highest : ℤ) : Step → Type 0 where
-  not-finite : finite x ≡ false → Stepped x lowest highest NotFinite
-  outside : T (finite x) → (wholeOf x <ℤ lowest) ⊎ (highest <ℤ wholeOf x) → Stepped x lowest highest (Outside x)
-  whole : T (finite x) → lowest ≤ℤ wholeOf x → wholeOf x ≤ℤ highest → Stepped x lowest highest (Whole (wholeOf x))
+  is-not-finite : finite x ≡ false → Stepped x lowest highest NotFinite
+  is-outside : T (finite x) → (wholeOf x <ℤ lowest) ⊎ (highest <ℤ wholeOf x) → Stepped x lowest highest (Outside x)
+  is-whole : T (finite x) → lowest ≤ℤ wholeOf x → wholeOf x ≤ℤ highest → Stepped x lowest highest (Whole (wholeOf x))
 
 pub stepped : (x : Float) (lowest highest : ℤ) → Stepped x lowest highest (stepOf x lowest highest)
 stepped x lowest highest = go (finite x) refl
@@ -86,15 +86,15 @@ stepped x lowest highest = go (finite x) refl
     is e = subst (Stepped x lowest highest) (sym e)
 
     go : (t : Bool) → finite x ≡ t → Stepped x lowest highest (stepOf x lowest highest)
-    go false n = is (step-not-finite x lowest highest n) (not-finite n)
+    go false n = is (step-not-finite x lowest highest n) (is-not-finite n)
     go true h =
         let f : T (finite x) = subst T (sym h) tt in
         elim (≤ℤ-or-<ℤ (wholeOf x) lowest) [
-          | inr l ↦ is (step-below x lowest highest f l) (outside f (inl l))
+          | inr l ↦ is (step-below x lowest highest f l) (is-outside f (inl l))
           | inl l ↦
               elim (≤ℤ-or-<ℤ highest (wholeOf x)) [
-                | inr g ↦ is (step-above x lowest highest f g) (outside f (inr g))
-                | inl g ↦ is (step-inside x lowest highest f l g) (whole f l g)
+                | inr g ↦ is (step-above x lowest highest f g) (is-outside f (inr g))
+                | inl g ↦ is (step-inside x lowest highest f l g) (is-whole f l g)
               ]
         ]
 
@@ -108,13 +108,13 @@ module _ (x : Float) (lowest highest : ℤ) where
   told e = subst (Stepped x lowest highest) e (stepped x lowest highest)
 
   inside : (z : ℤ) → Stepped x lowest highest (Whole z) → Inside x lowest highest z
-  inside z (whole f l g) = record { is = refl; low = l; high = g }
+  inside z (is-whole f l g) = record { is = refl; low = l; high = g }
 
   given : (y : Float) → Stepped x lowest highest (Outside y) → y ≡ x
-  given y (outside f p) = refl
+  given y (is-outside f p) = refl
 
   valueless : Stepped x lowest highest NotFinite → finite x ≡ false
-  valueless (not-finite n) = n
+  valueless (is-not-finite n) = n
 
   pub told-whole : (z : ℤ) → stepOf x lowest highest ≡ Whole z → Inside x lowest highest z
   told-whole z e = inside z (told e)

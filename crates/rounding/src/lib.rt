@@ -9,7 +9,7 @@ ghost use lib.Ieee.Positive.{num, den, positive};
 ghost use lib.Ieee.Scale.{finite};
 ghost use Rattle.rounding.specs.Nearest.{tie, rounded};
 ghost use Rattle.rounding.specs.Reading.{wholeOf, stepOf};
-ghost use Rattle.rounding.specs.Ready.{Near};
+ghost use Rattle.rounding.specs.Ready.{farthestEnd, farthestNear, Near};
 ghost use Rattle.rounding.specs.Answer.{floatOf};
 
 // What one float reading is, within a lowest and a highest whole number.
@@ -19,9 +19,14 @@ pub enum Step {
     Outside(f64),
 }
 
+// No limit lies as far from 0 as these.
+const LEAST_NEAR: f64 = -2001.0;
+
+const MOST_NEAR: f64 = 2001.0;
+
 // q, or the next, where a magnitude lies just half-way between them: the even one.
 fn tie(q: u64) -> u64
-    requires { ⌜ q ≤ 2001 ⌝ }
+    requires { ⌜ q ≤ farthestNear ⌝ }
     ensures { λ r. ⌜ r ≡ tie q ⌝ }
 {
     q + q % 2
@@ -29,7 +34,7 @@ fn tie(q: u64) -> u64
 
 // q and a half, which an f64 holds exactly.
 fn half_above(q: u64) -> f64
-    requires { ⌜ q ≤ 2001 ⌝ }
+    requires { ⌜ q ≤ farthestNear ⌝ }
     ensures { λ r. ⌜ HasValue r false (2 * q + 1) 2 ⌝ }
 {
     ((2 * q + 1) as f64) * 0.5
@@ -37,7 +42,7 @@ fn half_above(q: u64) -> f64
 
 // The whole number nearest to a, by the side of the half above its whole part.
 fn nearest_magnitude(a: f64) -> u64
-    requires { ⌜ T (positive a) ⌝ ∗ ⌜ num a ≤ 2001 * den a ⌝ }
+    requires { ⌜ T (positive a) ⌝ ∗ ⌜ num a ≤ farthestNear * den a ⌝ }
     ensures { λ r. ⌜ r ≡ rounded (num a) (den a) ⌝ }
 {
     let q = std::num::truncating_f64_to_u64(a);
@@ -72,16 +77,16 @@ fn is_finite(x: f64) -> bool
     -1.0 / 0.0 < x && x < 1.0 / 0.0
 }
 
-// The nearest whole number to x where it lies within the limits; a magnitude above 2001 lies outside of any.
+// The nearest whole number to x where it lies within the limits; a float that is not near lies outside of any.
 pub fn step_of(x: f64, lowest: i64, highest: i64) -> Step
-    requires { ⌜ natAbs lowest ≤ 2000 ⌝ ∗ ⌜ natAbs highest ≤ 2000 ⌝ }
+    requires { ⌜ natAbs lowest ≤ farthestEnd ⌝ ∗ ⌜ natAbs highest ≤ farthestEnd ⌝ }
     ensures { λ r. ⌜ r ≡ stepOf x lowest highest ⌝ }
 {
     if !is_finite(x) {
         Step::NotFinite
-    } else if x < -2001.0 {
+    } else if x < LEAST_NEAR {
         Step::Outside(x)
-    } else if 2001.0 < x {
+    } else if MOST_NEAR < x {
         Step::Outside(x)
     } else {
         let z = nearest_whole(x);

@@ -6,7 +6,7 @@ use lib.IntN.{ℤ, pos, natAbs}
 use lib.ListN.{length, getD}
 use lib.Signed.{_≤ℤ_}
 use Rattle.polynomials.specs.Limits.{farthest}
-use Rattle.layout.specs.Shape.{Shape, tableLength, cumulus}
+use Rattle.layout.specs.Shape.{tableLength, cumulus}
 use Rattle.layout.specs.Blocks.{Piece, low, high}
 
 abbrev pub reachesOf : List ℤ → List ℤ → Piece → ℕ → ℕ

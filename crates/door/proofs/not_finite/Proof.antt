@@ -6,6 +6,7 @@ use Prim.Native.Nat.{ℕ, _-_, _≤_, _<_}
 use native.Mathlib.Omega.{arith}
 use borrow.Author.Needs.{needs}
 use borrow.Author.Count.{below-more}
+use Rattle.layout.specs.Shape.{cumulus}
 use Rattle.limits.proofs.Firsts.{first-none, first-at}
 use Rattle.rounding.specs.declared.Step.the-variants.{NotFinite}
 use Rattle.door.specs.Steps.{numberOf, isNotFinite, stepsOf}
@@ -15,10 +16,10 @@ use Rattle.door.proofs.not_finite.Statement.{statement}
 use Rattle.door.proofs.not_finite.Tie as tie
 
 abbrev Inv-loop : tie.InvT-loop
-Inv-loop steps i₀ i = (i ≤ 5) × ((j : ℕ) → j < i → isNotFinite (stepsOf steps j) ≡ false)
+Inv-loop steps i₀ i = (i ≤ cumulus .variables) × ((j : ℕ) → j < i → isNotFinite (stepsOf steps j) ≡ false)
 
 abbrev μ-loop : tie.MeasureT-loop
-μ-loop steps i₀ i = 5 - i
+μ-loop steps i₀ i = cumulus .variables - i
 
 loop-holds : tie.Need-loop-holds Inv-loop μ-loop
 loop-holds c = (omega arith, λ j h. absurd (omega arith))
@@ -40,7 +41,7 @@ returns c =
     let l = c .before .before .before .before .loop in
     let s = c .before .before .before .before .before .args .t1 in
     let e : stepsOf s (l .i) ≡ NotFinite = c .enum-told .given .1 in
-    sym (first-at (refusedNotFinite (stepsOf s)) (l .i) (l .inv .1) (ap isNotFinite e) 5 (c .before .before .before .loop-test .taken) ∙ ap (numberOf (l .i)) e)
+    sym (first-at (refusedNotFinite (stepsOf s)) (l .i) (l .inv .1) (ap isNotFinite e) (cumulus .variables) (c .before .before .before .loop-test .taken) ∙ ap (numberOf (l .i)) e)
 
 add-i : tie.Need-add-i Inv-loop μ-loop
 add-i c = search needs
@@ -60,7 +61,7 @@ returns-2 : tie.Need-returns-2 Inv-loop μ-loop
 returns-2 c =
     let l = c .before .loop in
     let s = c .before .before .args .t1 in
-    sym (first-none (refusedNotFinite (stepsOf s)) 5 (λ j h. l .inv .1 j (omega (arith, l .inv .0, c .loop-test .left))))
+    sym (first-none (refusedNotFinite (stepsOf s)) (cumulus .variables) (λ j h. l .inv .1 j (omega (arith, l .inv .0, c .loop-test .left))))
 
 pub not-finite-spec : {M : Type 1} → statement M
 not-finite-spec =

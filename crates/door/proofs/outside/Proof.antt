@@ -2,13 +2,13 @@
 -- Assumes nothing.
 use mathlib.Core.Path.{_≡_, sym, _∙_, ap}
 use mathlib.Core.Bool.{false}
-use Prim.Native.Nat.{ℕ, _+_, _-_, _≤_, _<_}
+use Prim.Native.Nat.{ℕ, _-_, _≤_, _<_}
 use native.Mathlib.Omega.{arith}
 use borrow.Author.Needs.{needs}
 use borrow.Author.Count.{below-more}
 use lib.Ieee.{ofBits}
 use Rattle.layout.specs.Shape.{cumulus}
-use Rattle.layout.specs.Refusals.{first}
+use Rattle.layout.specs.Refusals.{first, outside}
 use Rattle.limits.proofs.Firsts.{first-none, first-at}
 use Rattle.rounding.specs.declared.Step.the-variants.{Outside}
 use Rattle.door.specs.Steps.{numberOf, handedBack, isOutside, stepsOf}
@@ -19,10 +19,10 @@ use Rattle.door.proofs.outside.Statement.{statement}
 use Rattle.door.proofs.outside.Tie as tie
 
 abbrev Inv-loop : tie.InvT-loop
-Inv-loop steps i₀ i = (i ≤ 5) × ((j : ℕ) → j < i → isOutside (stepsOf steps j) ≡ false)
+Inv-loop steps i₀ i = (i ≤ cumulus .variables) × ((j : ℕ) → j < i → isOutside (stepsOf steps j) ≡ false)
 
 abbrev μ-loop : tie.MeasureT-loop
-μ-loop steps i₀ i = 5 - i
+μ-loop steps i₀ i = cumulus .variables - i
 
 loop-holds : tie.Need-loop-holds Inv-loop μ-loop
 loop-holds c = (omega arith, λ j h. absurd (omega arith))
@@ -48,11 +48,11 @@ returns c =
     let l = d .before .before .before .before .loop in
     let s = d .before .before .before .before .before .args .t1 in
     let e : stepsOf s (l .i) ≡ Outside (d .step2 .given .0 .0) = d .step2 .given .1 in
-    let n : first (outsides 5 (stepsOf s)) ≡ 11 + l .i =
-    first-at (refusedOutside (stepsOf s)) (l .i) (l .inv .1) (ap isOutside e) 5 (d .before .before .before .loop-test .taken) ∙ ap (numberOf (l .i)) e
+    let n : first (outsides (cumulus .variables) (stepsOf s)) ≡ outside (l .i) =
+    first-at (refusedOutside (stepsOf s)) (l .i) (l .inv .1) (ap isOutside e) (cumulus .variables) (d .before .before .before .loop-test .taken) ∙ ap (numberOf (l .i)) e
     in
     c .refused .ensures
-    ∙ ap (refusedWith (11 + l .i)) (sym (back-given (stepsOf s) (l .i) (d .before .before .before .loop-test .taken) ∙ ap handedBack e))
+    ∙ ap (refusedWith (outside (l .i))) (sym (back-given (stepsOf s) (l .i) (d .before .before .before .loop-test .taken) ∙ ap handedBack e))
     ∙ ap (λ k. refusedWith k (readingFor cumulus (stepsOf s) k)) (sym n)
 
 add-i : tie.Need-add-i Inv-loop μ-loop
@@ -77,7 +77,7 @@ unfolding ofBits
 returns-2 c =
     let l = c .before .before .loop in
     let s = c .before .before .before .args .t1 in
-    let n : first (outsides 5 (stepsOf s)) ≡ 0 = first-none (refusedOutside (stepsOf s)) 5 (λ j h. l .inv .1 j (omega (arith, l .inv .0, c .before .loop-test .left))) in
+    let n : first (outsides (cumulus .variables) (stepsOf s)) ≡ 0 = first-none (refusedOutside (stepsOf s)) (cumulus .variables) (λ j h. l .inv .1 j (omega (arith, l .inv .0, c .before .loop-test .left))) in
     c .refused2 .ensures ∙ ap (λ k. refusedWith k (readingFor cumulus (stepsOf s) k)) (sym n)
 
 pub outside-spec : {M : Type 1} → statement M

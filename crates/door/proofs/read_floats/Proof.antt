@@ -64,22 +64,22 @@ module _ (c : tie.After-steps-of) where
   abbrev there : tie.Else2
   there = c .before .before
 
-  same-step : (i : ℕ) → i < 5 → stepAt (c .before .of .result .numbers) (x there) i ≡ s there i
+  same-step : (i : ℕ) → i < cumulus .variables → stepAt (c .before .of .result .numbers) (x there) i ≡ s there i
   same-step i h =
       ap (λ l. stepAt l (x there) i) (c .before .of .ensures)
       ∙ ap₂ (stepOf (x there i)) (lowest-same (limits-take cumulus (t there)) i h) (highest-same (limits-take cumulus (t there)) i h)
 
-  step-is : (i : ℕ) → i < 5 → stepsOf (c .steps-of .result) i ≡ s there i
+  step-is : (i : ℕ) → i < cumulus .variables → stepsOf (c .steps-of .result) i ≡ s there i
   step-is i h =
-      ap (λ l. stepsOf l i) (c .steps-of .ensures) ∙ getD-listed 5 (stepAt (c .before .of .result .numbers) (x there)) i (Whole (pos 0)) h ∙ same-step i h
+      ap (λ l. stepsOf l i) (c .steps-of .ensures) ∙ getD-listed (cumulus .variables) (stepAt (c .before .of .result .numbers) (x there)) i (Whole (pos 0)) h ∙ same-step i h
 
-  not-finites-are : notFinites 5 (stepsOf (c .steps-of .result)) ≡ notFinites 5 (s there)
-  not-finites-are = listed-ext (0 when true) 5 _ _ (λ i h. ap (λ r. numberOf i r when isNotFinite r) (step-is i h))
+  not-finites-are : notFinites (cumulus .variables) (stepsOf (c .steps-of .result)) ≡ notFinites (cumulus .variables) (s there)
+  not-finites-are = listed-ext (0 when true) (cumulus .variables) _ _ (λ i h. ap (λ r. numberOf i r when isNotFinite r) (step-is i h))
 
-  outsides-are : outsides 5 (stepsOf (c .steps-of .result)) ≡ outsides 5 (s there)
-  outsides-are = listed-ext (0 when true) 5 _ _ (λ i h. ap (λ r. numberOf i r when isOutside r) (step-is i h))
+  outsides-are : outsides (cumulus .variables) (stepsOf (c .steps-of .result)) ≡ outsides (cumulus .variables) (s there)
+  outsides-are = listed-ext (0 when true) (cumulus .variables) _ _ (λ i h. ap (λ r. numberOf i r when isOutside r) (step-is i h))
 
-unread-is : (c : tie.After-not-finite) → c .not-finite .result ≡ first (notFinites 5 (s (there (c .before))))
+unread-is : (c : tie.After-not-finite) → c .not-finite .result ≡ first (notFinites (cumulus .variables) (s (there (c .before))))
 unread-is c = c .not-finite .ensures ∙ ap first (not-finites-are (c .before))
 
 -- ---- five finite readings
@@ -87,11 +87,11 @@ module _ (c : tie.After-outside) where
   abbrev steps : tie.After-steps-of
   steps = c .before .before .before
 
-  finite : first (notFinites 5 (s (there steps))) ≡ 0
+  finite : first (notFinites (cumulus .variables) (s (there steps))) ≡ 0
   finite = sym (unread-is (c .before .before)) ∙ c .before .if3 .left
 
-  outside-is : first (outsides 5 (stepsOf (steps .steps-of .result))) ≡ doorNumber cumulus (t (there steps)) (x (there steps))
-  outside-is = ap first (outsides-are steps) ∙ sym (number-is (there steps) ∙ past-finite (s (there steps)) 5 finite)
+  outside-is : first (outsides (cumulus .variables) (stepsOf (steps .steps-of .result))) ≡ doorNumber cumulus (t (there steps)) (x (there steps))
+  outside-is = ap first (outsides-are steps) ∙ sym (number-is (there steps) ∙ past-finite (s (there steps)) (cumulus .variables) finite)
 
   past-number : c .outside .result .number ≡ doorNumber cumulus (t (there steps)) (x (there steps))
   past-number = ap (λ r. r .number) (c .outside .ensures) ∙ outside-is
@@ -110,18 +110,18 @@ module _ (c : tie.After-wholes-in) where
   nothing : doorNumber cumulus (t d) (x d) ≡ 0
   nothing = sym (past-number past) ∙ c .before .if4 .left
 
-  within : first (outsides 5 (s d)) ≡ 0
-  within = sym (number-is d ∙ past-finite (s d) 5 (finite past)) ∙ nothing
+  within : first (outsides (cumulus .variables) (s d)) ≡ 0
+  within = sym (number-is d ∙ past-finite (s d) (cumulus .variables) (finite past)) ∙ nothing
 
-  state-is : (i : ℕ) → i < 5 → w i ≡ roundedAll (x d) i
+  state-is : (i : ℕ) → i < cumulus .variables → w i ≡ roundedAll (x d) i
   state-is i h =
-      ap (λ l. getD l i (pos 0)) (c .wholes-in .ensures) ∙ getD-listed 5 (λ k. wholeIn (stepsOf (steps past .steps-of .result) k)) i (pos 0) h
+      ap (λ l. getD l i (pos 0)) (c .wholes-in .ensures) ∙ getD-listed (cumulus .variables) (λ k. wholeIn (stepsOf (steps past .steps-of .result) k)) i (pos 0) h
       ∙ ap wholeIn (step-is (steps past) i h ∙ step-whole (t d) (x d) (finite past) within i h)
 
-  readable : ReadAccepted cumulus (t d) w (listed 6 (λ b. pos 0))
+  readable : ReadAccepted cumulus (t d) w (listed (cumulus .blocks) (λ b. pos 0))
   readable = record {
     table = table-whole d;
-    output = length-listed 6 (λ b. pos 0);
+    output = length-listed (cumulus .blocks) (λ b. pos 0);
     limits = sound d .0;
     weights = sound d .1;
     readings = λ i h. ap (λ z. leZ (lowest (t d) i) z && leZ z (highest (t d) i)) (state-is i h) ∙ rounded-inside (t d) (x d) (finite past) within i h;
@@ -139,8 +139,8 @@ module _ (c : tie.After-in-low-piece) where
   piece-is : (b : Bool) → c .in-low-piece .result ≡ b → pieceAt (t (d all)) (w all) ≡ cond b low high
   piece-is b e = ap (λ z. cond z low high) (sym low-is ∙ e)
 
-  all-valued : (n : ℕ) → n < 2 → pieceAt (t (d all)) (w all) ≡ piece n → (b : ℕ) → b < 6 → Valued (t (d all)) b n (all .wholes-in .result)
-  all-valued n h e = valued (t (d all)) (all .wholes-in .result) (listed 6 (λ b. pos 0)) n h e (readable all)
+  all-valued : (n : ℕ) → n < 2 → pieceAt (t (d all)) (w all) ≡ piece n → (b : ℕ) → b < cumulus .blocks → Valued (t (d all)) b n (all .wholes-in .result)
+  all-valued n h e = valued (t (d all)) (all .wholes-in .result) (listed (cumulus .blocks) (λ b. pos 0)) n h e (readable all)
 
   answers : (n : ℕ) → pieceAt (t (d all)) (w all) ≡ piece n → (r : Answer)
       → r ≡ answerWith 0 positiveZero (λ b. floatOf (total (coefficient cumulus (t (d all)) b (piece n)) (w all)))
@@ -198,11 +198,11 @@ unfolding ofBits
 returns-3 c =
     let f = c .before .before in
     let d = there (f .before) in
-    let apart : first (notFinites 5 (s d)) ≡ 0 → ⊥ = λ z. c .before .if3 .taken (unread-is f ∙ z) in
-    let number : doorNumber cumulus (t d) (x d) ≡ f .not-finite .result = number-is d ∙ first-apart (notFinites 5 (s d)) (outsides 5 (s d)) apart ∙ sym (unread-is f) in
+    let apart : first (notFinites (cumulus .variables) (s d)) ≡ 0 → ⊥ = λ z. c .before .if3 .taken (unread-is f ∙ z) in
+    let number : doorNumber cumulus (t d) (x d) ≡ f .not-finite .result = number-is d ∙ first-apart (notFinites (cumulus .variables) (s d)) (outsides (cumulus .variables) (s d)) apart ∙ sym (unread-is f) in
     c .refused3 .ensures
     ∙ refused-answer (t d) (x d) (f .not-finite .result) positiveZero number (positive (c .before .if3 .taken))
-    (back-above (s d) (f .not-finite .result) (omega (arith, unread-is f, not-finite-number (s d) 5 apart)))
+    (back-above (s d) (f .not-finite .result) (omega (arith, unread-is f, not-finite-number (s d) (cumulus .variables) apart)))
 
 outside-requires : tie.Need-outside-requires
 outside-requires c κs = search needs
@@ -211,7 +211,7 @@ returns-4 : tie.Need-returns-4
 returns-4 c =
     let o = c .before .before in
     let d = there (steps o) in
-    let n = first (outsides 5 (stepsOf (steps o .steps-of .result))) in
+    let n = first (outsides (cumulus .variables) (stepsOf (steps o .steps-of .result))) in
     let apart : n ≡ 0 → ⊥ = λ z. c .if4 .taken (ap (λ r. r .number) (o .outside .ensures) ∙ z) in
     o .outside .ensures
     ∙ refused-answer (t d) (x d) n (readingFor cumulus (stepsOf (steps o .steps-of .result)) n) (sym (outside-is o)) (positive apart)

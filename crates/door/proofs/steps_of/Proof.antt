@@ -20,10 +20,10 @@ use Rattle.door.proofs.steps_of.Statement.{statement}
 use Rattle.door.proofs.steps_of.Tie as tie
 
 abbrev Inv-loop : tie.InvT-loop
-Inv-loop limits readings steps₀ i₀ steps i = (i ≤ 5) × (length steps ≡ 5) × (take i steps ≡ listed i (stepAt (limits .numbers) (floats readings)))
+Inv-loop limits readings steps₀ i₀ steps i = (i ≤ cumulus .variables) × (length steps ≡ cumulus .variables) × (take i steps ≡ listed i (stepAt (limits .numbers) (floats readings)))
 
 abbrev μ-loop : tie.MeasureT-loop
-μ-loop limits readings steps₀ i₀ steps i = 5 - i
+μ-loop limits readings steps₀ i₀ steps i = cumulus .variables - i
 
 module _ (c : tie.After-highest Inv-loop μ-loop) where
   lowest-is : toZ w64 (ofZ w64 (c .before .lowest .result)) ≡ lowest (c .before .before .before .before .args .limits .numbers) (c .before .before .before .loop .i)
@@ -85,7 +85,7 @@ returns : tie.Need-returns Inv-loop μ-loop
 returns c =
     let l = c .before .loop in
     let a = c .before .before .args in
-    listed-all (l .steps) (stepAt (a .limits .numbers) (floats (a .t2))) (l .i) 5 (l .inv .1) (omega (arith, l .inv .0, c .loop-test .left)) (l .inv .2)
+    listed-all (l .steps) (stepAt (a .limits .numbers) (floats (a .t2))) (l .i) (cumulus .variables) (l .inv .1) (omega (arith, l .inv .0, c .loop-test .left)) (l .inv .2)
 
 pub steps-of-spec : {M : Type 1} → statement M
 steps-of-spec =

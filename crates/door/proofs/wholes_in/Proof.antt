@@ -8,15 +8,16 @@ use lib.ListN.{length, take, length-set}
 use mir.Facts.{toZ-ofZ}
 use Rattle.polynomials.specs.Sum.{listed}
 use Rattle.polynomials.proofs.Listed.{listed-more, listed-all}
+use Rattle.layout.specs.Shape.{cumulus}
 use Rattle.door.specs.Steps.{wholeIn, stepsOf}
 use Rattle.door.proofs.wholes_in.Statement.{statement}
 use Rattle.door.proofs.wholes_in.Tie as tie
 
 abbrev Inv-loop : tie.InvT-loop
-Inv-loop steps state₀ i₀ state i = (i ≤ 5) × (length state ≡ 5) × (take i state ≡ listed i (λ k. wholeIn (stepsOf steps k)))
+Inv-loop steps state₀ i₀ state i = (i ≤ cumulus .variables) × (length state ≡ cumulus .variables) × (take i state ≡ listed i (λ k. wholeIn (stepsOf steps k)))
 
 abbrev μ-loop : tie.MeasureT-loop
-μ-loop steps state₀ i₀ state i = 5 - i
+μ-loop steps state₀ i₀ state i = cumulus .variables - i
 
 loop-holds : tie.Need-loop-holds Inv-loop μ-loop
 unfolding listed
@@ -57,7 +58,7 @@ returns : tie.Need-returns Inv-loop μ-loop
 returns c =
     let l = c .before .loop in
     let s = c .before .before .args .t1 in
-    listed-all (l .state) (λ k. wholeIn (stepsOf s k)) (l .i) 5 (l .inv .1) (omega (arith, l .inv .0, c .loop-test .left)) (l .inv .2)
+    listed-all (l .state) (λ k. wholeIn (stepsOf s k)) (l .i) (cumulus .variables) (l .inv .1) (omega (arith, l .inv .0, c .loop-test .left)) (l .inv .2)
 
 pub wholes-in-spec : {M : Type 1} → statement M
 wholes-in-spec =

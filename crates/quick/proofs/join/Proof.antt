@@ -1,6 +1,6 @@
 -- `quick::join` meets its contract. The loop's invariant: the bits are joined of the blocks passed. Assumes nothing.
 use mathlib.Core.Path.{_≡_, _∙_, ap, subst}
-use Prim.Native.Nat.{ℕ, _+_, _*_, _-_, _≤_, _<_}
+use Prim.Native.Nat.{_+_, _*_, _-_, _≤_}
 use native.Mathlib.Omega.{arith}
 use borrow.Author.Needs.{needs, sfits-of}
 use lib.IntN.{pos, natAbs}

@@ -1,11 +1,10 @@
 -- `quick::surely_within` meets its contract: where the side groups and each group of alpha and eta are together within the cap, so is each
 -- coefficient. Assumes nothing.
-use mathlib.Core.Path.{_≡_, subst}
+use mathlib.Core.Path.{subst}
 use mathlib.Core.Bool.{Bool, true, false}
-use Prim.Native.Nat.{ℕ, _+_, _≤_, _<_}
 use native.Mathlib.Omega.{arith}
 use borrow.Author.Needs.{needs, sfits-of}
-use lib.IntN.{pos, natAbs}
+use lib.IntN.{pos}
 use lib.ListN.{getD}
 use Rattle.polynomials.specs.declared.Weighed.the-variants.{Within}
 use Rattle.layout.specs.Numbers.{pitchSize}

@@ -1,13 +1,10 @@
 -- `quick::weigh_sides` meets its contract: the sum of what neither group passes. Assumes nothing.
-use mathlib.Core.Path.{_≡_, subst}
-use Prim.Native.Nat.{ℕ, _+_, _≤_, _<_}
+use mathlib.Core.Path.{subst}
 use native.Mathlib.Nat.{add-le-add}
 use native.Mathlib.Omega.{arith}
 use borrow.Author.Needs.{needs, sfits-of}
-use lib.IntN.{pos, natAbs}
+use lib.IntN.{pos}
 use lib.ListN.{getD}
-use mir.Syntax.{w64}
-use mir.Val.{SFits}
 use Rattle.polynomials.specs.declared.Weighed.the-variants.{Within}
 use Rattle.layout.specs.Numbers.{sideSize, xiStart, zetaStart}
 use Rattle.quick.specs.Joined.{reach, heaviest}

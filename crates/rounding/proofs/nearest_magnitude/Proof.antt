@@ -12,13 +12,14 @@ use lib.Ieee.Fits.{down-pos}
 use lib.Ieee.Exact.{HasValue}
 use lib.Ieee.Positive.{num, den, den-pos, positive, positive-of-value}
 use Rattle.rounding.specs.Nearest.{tie as tie-of, rounded}
+use Rattle.rounding.specs.Ready.{farthestNear}
 use Rattle.rounding.proofs.Sides.{half, rounded-below, rounded-above, rounded-at, whole-part-within}
 use Rattle.rounding.proofs.Comparisons.{lt-value, gt-value}
 use Rattle.rounding.proofs.nearest_magnitude.Statement.{statement}
 use Rattle.rounding.proofs.nearest_magnitude.Tie as tie
 
 -- ---- the whole part
-truncatable : (a : Float) → T (positive a) → num a ≤ 2001 * den a → T (lt (fin true 1 (pos 0)) a) × T (lt a (fin false 1 (pos 64)))
+truncatable : (a : Float) → T (positive a) → num a ≤ farthestNear * den a → T (lt (fin true 1 (pos 0)) a) × T (lt a (fin false 1 (pos 64)))
 unfolding lt
 truncatable nan p l = absurd p
 truncatable (inf s) p l = absurd p
@@ -29,12 +30,12 @@ truncatable (fin false m e) p l =
     let below : m * up e * 1 < 1 * 2 ^ 64 * down e = omega arith in
     (lt→ltb _ _ above, lt→ltb _ _ below)
 
-truncated : (a : Float) → T (positive a) → num a ≤ 2001 * den a → toUnsigned 64 a ≡ num a / den a
+truncated : (a : Float) → T (positive a) → num a ≤ farthestNear * den a → toUnsigned 64 a ≡ num a / den a
 unfolding toUnsigned
 truncated nan p l = absurd p
 truncated (inf s) p l = absurd p
 truncated (fin true m e) p l = absurd p
-truncated (fin false m e) p l = omega (arith, whole-part-within (m * up e) (down e) 2001 (down-pos e) l)
+truncated (fin false m e) p l = omega (arith, whole-part-within (m * up e) (down e) farthestNear (down-pos e) l)
 
 -- ---- by the half above it: y has the value (2q + 1) / 2
 module _ (a y : Float) (q : ℕ) (p : T (positive a)) (e : q ≡ num a / den a) (v : HasValue y false (2 * q + 1) 2) where
@@ -69,8 +70,8 @@ module _ (c : tie.After-truncating-f64-to-u64) where
   q-is : q ≡ num a / den a
   q-is = c .truncating-f64-to-u64 .ensures ∙ truncated a (c .before .pre .0) (c .before .pre .1)
 
-  q-small : q ≤ 2001
-  q-small = subst (λ (n : ℕ). n ≤ 2001) (sym q-is) (whole-part-within (num a) (den a) 2001 (den-pos a) (c .before .pre .1))
+  q-small : q ≤ farthestNear
+  q-small = subst (λ (n : ℕ). n ≤ farthestNear) (sym q-is) (whole-part-within (num a) (den a) farthestNear (den-pos a) (c .before .pre .1))
 
 truncating-f64-to-u64-requires : tie.Need-truncating-f64-to-u64-requires
 truncating-f64-to-u64-requires c κs = truncatable (c .args .a) (c .pre .0) (c .pre .1)
