@@ -25,14 +25,14 @@ numbered number values = decimal number ++ spaced values ++ 10 ∷ []
 
 -- how many bytes the coefficients take at most, each behind a space, and a whole answer with its newline
 abbrev pub longestValues : ℕ
-longestValues = 6 * (1 + longestNumber)
+longestValues = cumulus .blocks * (1 + longestNumber)
 
 abbrev pub longest : ℕ
 longest = longestNumber + longestValues + 1
 
 -- the coefficients where none are read
 abbrev pub zeros : List ℤ
-zeros = replicate 6 (pos 0)
+zeros = replicate (cumulus .blocks) (pos 0)
 
 -- what a table answers to a line
 unfoldable pub lineAnswer : List ℤ → Line → List ℕ

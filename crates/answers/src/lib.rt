@@ -6,15 +6,20 @@ ghost use Rattle.printing.specs.Spell.{written};
 ghost use Rattle.answers.specs.Answers.{spaced, numbered, lineAnswer, longestValues, longest};
 ghost use Rattle.tables.specs.Ready.{tableNumber};
 ghost use Rattle.answers.specs.Reading.{fresh, lastAnswer, Feeding, LinePart, Taking, Taken};
+use layout::BLOCKS;
 use lines::Line;
 use lines::State;
+use printing::LONGEST_NUMBER;
 use printing::put_digits;
 use printing::put_number;
 use tables::reading::read_known;
 use tables::soundness::refusal_of;
 
-// The longest answer: seven numbers of 20 bytes, a space before all but the first, and the newline.
-pub const LONGEST: usize = 147;
+// How many bytes the coefficients take at most, each behind a space.
+const LONGEST_VALUES: usize = BLOCKS * (1 + LONGEST_NUMBER);
+
+// And a whole answer: the number given back, the coefficients and the newline.
+pub const LONGEST: usize = LONGEST_NUMBER + LONGEST_VALUES + 1;
 
 // The number given back for a line that is no five numbers.
 const MALFORMED: u64 = 31;
@@ -39,7 +44,7 @@ pub struct Fed {
 }
 
 // Six coefficients, each behind a space, from the place `at` on; gives the place behind them.
-fn put_values(values: [i64; 6], out: &mut [u8], at: usize) -> usize
+fn put_values(values: [i64; BLOCKS], out: &mut [u8], at: usize) -> usize
     requires { ⌜ at + longestValues ≤ length (now out) ⌝ }
     ensures place { λ r. ⌜ r ≡ at + length (spaced values) ⌝ }
     ensures output { λ r. ⌜ now (out .exit) ≡ written (now (out .entry)) at (spaced values) ⌝ }
@@ -47,7 +52,7 @@ fn put_values(values: [i64; 6], out: &mut [u8], at: usize) -> usize
 {
     let mut place = at;
     let mut k: usize = 0;
-    while k < 6 {
+    while k < BLOCKS {
         out[place] = b' ';
         place = put_number(values[k], out, place + 1);
         k += 1;
@@ -56,7 +61,7 @@ fn put_values(values: [i64; 6], out: &mut [u8], at: usize) -> usize
 }
 
 // A whole answer with its newline.
-fn put_answer(number: u64, values: [i64; 6], out: &mut [u8], at: usize) -> usize
+fn put_answer(number: u64, values: [i64; BLOCKS], out: &mut [u8], at: usize) -> usize
     requires { ⌜ at + longest ≤ length (now out) ⌝ }
     ensures place { λ r. ⌜ r ≡ at + length (numbered number values) ⌝ }
     ensures output { λ r. ⌜ now (out .exit) ≡ written (now (out .entry)) at (numbered number values) ⌝ }
@@ -75,7 +80,7 @@ fn put_line(table: &[i64], refused: u64, line: Line, out: &mut [u8], at: usize) 
     ensures output { λ r. ⌜ now (out .exit) ≡ written (now (out .entry)) at (lineAnswer (now (table .entry)) line) ⌝ }
     ensures room { λ r. ⌜ r ≤ at + longest ⌝ }
 {
-    let mut values = [0i64; 6];
+    let mut values = [0i64; BLOCKS];
     match line {
         Line::Malformed => put_answer(MALFORMED, values, out, at),
         Line::Readings {

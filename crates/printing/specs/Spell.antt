@@ -20,7 +20,7 @@ abbrev pub spell : ℤ → List ℕ
 spell (pos n) = decimal n
 spell (negsuc n) = 45 ∷ decimal (suc n)
 
--- how many bytes a number of 64 bits takes at most: a minus and 19 digits
+-- how many bytes a number of 64 bits takes at most: a minus and 19 digits, or 20 digits
 abbrev pub longestNumber : ℕ
 longestNumber = 20
 

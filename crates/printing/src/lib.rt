@@ -7,6 +7,9 @@ ghost use lib.Seq.{sets};
 ghost use Rattle.printing.specs.Groups.{four, eight, pairs, packed, unpacked};
 ghost use Rattle.printing.specs.Spell.{decimal, spell, longestNumber, written};
 
+// How many bytes a number takes at most: the least i64 has a minus and 19 digits, the greatest u64 has 20.
+pub const LONGEST_NUMBER: usize = 20;
+
 // The four digits of a number as the bytes of one word, the first lowest. The two bytes of a pair of digits, whose number is
 // 10a + b, are a + 256b = 256(10a + b) - 2559a.
 fn four_bytes(n: u64) -> u64
@@ -140,7 +143,7 @@ pub fn put_digits(n: u64, out: &mut [u8], at: usize) -> usize
     i + 16
 }
 
-// A number from the place `at` on; gives the place behind it. The longest is the least i64, a minus and 19 digits.
+// A number from the place `at` on; gives the place behind it.
 pub fn put_number(x: i64, out: &mut [u8], at: usize) -> usize
     requires { ⌜ at + longestNumber ≤ length (now out) ⌝ }
     ensures place { λ r. ⌜ r ≡ at + length (spell x) ⌝ }

@@ -11,7 +11,8 @@ use lib.Seq.{take-all}
 use mir.Syntax.{w64}
 use mir.Val.{SFits}
 use mir.Facts.{toZ-ofZ}
-use Rattle.printing.specs.Spell.{spell, written}
+use Rattle.layout.specs.Shape.{cumulus}
+use Rattle.printing.specs.Spell.{spell, longestNumber, written}
 use Rattle.printing.proofs.Digits.{spell-fits}
 use Rattle.printing.proofs.Writing.{written-sets, written-cons, written-append}
 use Rattle.answers.specs.Answers.{spaced}
@@ -21,10 +22,10 @@ use Rattle.answers.proofs.put_values.Tie as tie
 
 abbrev Inv-loop : tie.InvT-loop
 Inv-loop out₀ at values place₀ k₀ out place k =
-    (k ≤ 6) × (length out ≡ length out₀) × (place ≡ at + length (spaced (take k values))) × (length (spaced (take k values)) ≤ 21 * k) × (out ≡ written out₀ at (spaced (take k values)))
+    (k ≤ cumulus .blocks) × (length out ≡ length out₀) × (place ≡ at + length (spaced (take k values))) × (length (spaced (take k values)) ≤ (1 + longestNumber) * k) × (out ≡ written out₀ at (spaced (take k values)))
 
 abbrev μ-loop : tie.MeasureT-loop
-μ-loop out₀ at values place₀ k₀ out place k = 6 - k
+μ-loop out₀ at values place₀ k₀ out place k = cumulus .blocks - k
 
 loop-holds : tie.Need-loop-holds Inv-loop μ-loop
 loop-holds c =
@@ -69,7 +70,7 @@ loop-again c =
     let x = getD (a .t1) (l .k) (pos 0) in
     let fits : SFits w64 x = record { sfits = c .before .before .before .before .put-number-arg .given } in
     let short = spell-fits x fits in
-    let count : length (a .t1) ≡ 6 = search needs in
+    let count : length (a .t1) ≡ cumulus .blocks = search needs in
     let more = spaced-more (a .t1) (l .k) (omega arith) in
     let longer : length (spaced (take (l .k + 1) (a .t1))) ≡ length S + (1 + length (spell x)) = ap length more ∙ length-append S (32 ∷ spell x) ∙ omega arith in (
       omega (arith, h),
@@ -91,7 +92,7 @@ returns : tie.Need-returns Inv-loop μ-loop
 returns c =
     let a = c .before .before .before .args in
     let l = c .before .loop in
-    let count : length (a .t1) ≡ 6 = search needs in
+    let count : length (a .t1) ≡ cumulus .blocks = search needs in
     let all : take (l .k) (a .t1) ≡ a .t1 = take-all (l .k) (a .t1) (omega (arith, c .loop-test .left)) in (
       l .inv .2 ∙ ap (λ xs. a .at + length (spaced xs)) all,
       (l .inv .4 ∙ ap (λ xs. written (a .out .now) (a .at) (spaced xs)) all, omega (arith, l .inv .0, l .inv .2, l .inv .3)),
