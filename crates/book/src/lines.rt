@@ -2,6 +2,9 @@
 ghost use mathlib.Core.Path.{_≡_};
 ghost use Prim.Native.Nat.{_+_, _*_, _≤_, _<_};
 ghost use lib.ListN.{length};
+ghost use Rattle.layout.specs.Shape.{cumulus};
+ghost use Rattle.printing.specs.Spell.{longestNumber};
+use layout::BLOCKS;
 use libc::STDOUT_FILENO;
 
 // The room of a line; no line needs more.
@@ -19,35 +22,35 @@ pub fn put_text(text: &[u8], line: &mut [u8], at: usize) -> usize
     at + k
 }
 
-// An unsigned number has at most 20 digits.
+// An unsigned number.
 fn put_unsigned(n: u64, line: &mut [u8], at: usize) -> usize
-    requires { ⌜ at + 20 ≤ length (now line) ⌝ }
-    ensures { λ r. ⌜ r ≤ at + 20 ⌝ }
+    requires { ⌜ at + longestNumber ≤ length (now line) ⌝ }
+    ensures { λ r. ⌜ r ≤ at + longestNumber ⌝ }
 {
     printing::put_digits(n, line, at)
 }
 
 // A space and an unsigned number.
 pub fn put_word(n: u64, line: &mut [u8], at: usize) -> usize
-    requires { ⌜ at + 21 ≤ length (now line) ⌝ }
-    ensures { λ r. ⌜ r ≤ at + 21 ⌝ }
+    requires { ⌜ at + (1 + longestNumber) ≤ length (now line) ⌝ }
+    ensures { λ r. ⌜ r ≤ at + (1 + longestNumber) ⌝ }
 {
     let from = put_text(b" ", line, at);
     put_unsigned(n, line, from)
 }
 
-// A signed number has at most 19 digits and a minus.
+// A signed number.
 fn put_signed(x: i64, line: &mut [u8], at: usize) -> usize
-    requires { ⌜ at + 20 ≤ length (now line) ⌝ }
-    ensures { λ r. ⌜ r ≤ at + 20 ⌝ }
+    requires { ⌜ at + longestNumber ≤ length (now line) ⌝ }
+    ensures { λ r. ⌜ r ≤ at + longestNumber ⌝ }
 {
     printing::put_number(x, line, at)
 }
 
 // A space and a signed number.
 pub fn put_number(x: i64, line: &mut [u8], at: usize) -> usize
-    requires { ⌜ at + 21 ≤ length (now line) ⌝ }
-    ensures { λ r. ⌜ r ≤ at + 21 ⌝ }
+    requires { ⌜ at + (1 + longestNumber) ≤ length (now line) ⌝ }
+    ensures { λ r. ⌜ r ≤ at + (1 + longestNumber) ⌝ }
 {
     let from = put_text(b" ", line, at);
     put_signed(x, line, from)
@@ -55,12 +58,12 @@ pub fn put_number(x: i64, line: &mut [u8], at: usize) -> usize
 
 // At most six signed numbers.
 pub fn put_numbers(xs: &[i64], line: &mut [u8], at: usize) -> usize
-    requires { ⌜ at + 126 ≤ length (now line) ⌝ }
-    ensures { λ r. ⌜ r ≤ at + 126 ⌝ }
+    requires { ⌜ at + cumulus .blocks * (1 + longestNumber) ≤ length (now line) ⌝ }
+    ensures { λ r. ⌜ r ≤ at + cumulus .blocks * (1 + longestNumber) ⌝ }
 {
     let mut end = at;
     let mut k: usize = 0;
-    while k < 6 {
+    while k < BLOCKS {
         if k < xs.len() {
             let x = xs[k];
             end = put_number(x, line, end);
@@ -73,7 +76,7 @@ pub fn put_numbers(xs: &[i64], line: &mut [u8], at: usize) -> usize
 // The number of the line, which is then counted.
 pub fn start(count: &mut u64, line: &mut [u8]) -> usize
     requires { ⌜ 512 ≤ length (now line) ⌝ }
-    ensures { λ r. ⌜ r ≤ 20 ⌝ }
+    ensures { λ r. ⌜ r ≤ longestNumber ⌝ }
 {
     let n = *count;
     *count = std::num::wrapping_add_u64(n, 1);

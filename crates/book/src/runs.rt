@@ -2,6 +2,8 @@
 ghost use mathlib.Core.Path.{_≡_};
 ghost use Prim.Native.Nat.{_+_, _*_, _≤_, _<_};
 ghost use lib.ListN.{length};
+ghost use Rattle.layout.specs.Shape.{cumulus};
+ghost use Rattle.printing.specs.Spell.{longestNumber};
 use super::lines::ROOM;
 use super::lines::finish;
 use super::lines::put_number;
@@ -55,8 +57,8 @@ fn put_refused(out: &[i64], line: &mut [u8], at: usize) -> usize
 
 // The checksum of the output, or whether a refusal left it as it was.
 fn put_written(number: u64, out: &[i64], line: &mut [u8], at: usize) -> usize
-    requires { ⌜ at + 42 ≤ length (now line) ⌝ }
-    ensures { λ r. ⌜ r ≤ at + 42 ⌝ }
+    requires { ⌜ at + 2 * (1 + longestNumber) ≤ length (now line) ⌝ }
+    ensures { λ r. ⌜ r ≤ at + 2 * (1 + longestNumber) ⌝ }
 {
     let next = put_word(number, line, at);
     if number == DONE {
@@ -67,8 +69,8 @@ fn put_written(number: u64, out: &[i64], line: &mut [u8], at: usize) -> usize
 
 // The checksum and the length of the table of a case, and the length of its output.
 fn put_lengths(table: &[i64], out: &[i64], line: &mut [u8], at: usize) -> usize
-    requires { ⌜ at + 63 ≤ length (now line) ⌝ }
-    ensures { λ r. ⌜ r ≤ at + 63 ⌝ }
+    requires { ⌜ at + 3 * (1 + longestNumber) ≤ length (now line) ⌝ }
+    ensures { λ r. ⌜ r ≤ at + 3 * (1 + longestNumber) ⌝ }
 {
     let sum = put_word(checksum(table), line, at);
     let given = put_word(table.len() as u64, line, sum);
@@ -93,8 +95,8 @@ fn moved(table: &[i64], variable: usize, shift: i64, out: &mut [i64]) -> u64 {
 
 // The six values, or whether a refusal left the output as it was.
 fn put_values(number: u64, out: &[i64], line: &mut [u8], at: usize) -> usize
-    requires { ⌜ at + 147 ≤ length (now line) ⌝ }
-    ensures { λ r. ⌜ r ≤ at + 147 ⌝ }
+    requires { ⌜ at + (1 + cumulus .blocks) * (1 + longestNumber) ≤ length (now line) ⌝ }
+    ensures { λ r. ⌜ r ≤ at + (1 + cumulus .blocks) * (1 + longestNumber) ⌝ }
 {
     let next = put_word(number, line, at);
     if number == DONE {

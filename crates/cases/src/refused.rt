@@ -1,6 +1,7 @@
 // Tables and outputs of wrong lengths, and every mixture of defects. Each function runs the k-th case of its list.
-ghost use Prim.Native.Nat.{_≤_};
+ghost use Prim.Native.Nat.{_*_, _≤_};
 ghost use lib.ListN.{length};
+ghost use Rattle.layout.specs.Numbers.{tableSize};
 use book::runs::move_case;
 use book::runs::read_case;
 use layout::BLOCKS;
@@ -47,7 +48,7 @@ fn move_part(
 
 // Lengths about that of a read's output.
 fn output_length(k: usize) -> usize
-    ensures { λ r. ⌜ r ≤ 622 ⌝ }
+    ensures { λ r. ⌜ r ≤ 2 * tableSize ⌝ }
 {
     match k {
         0 => BLOCKS,

@@ -1,5 +1,6 @@
 // Tables whose weight is just the cap, and one past it.
 ghost use Prim.Native.Nat.{_<_};
+ghost use Rattle.layout.specs.Numbers.{tableSize};
 use super::uses::read_inside;
 use super::uses::use_table;
 use book::usual::try_move;
@@ -27,7 +28,7 @@ fn read_with(
     size: u64,
     count: &mut u64,
 ) -> [i64; TABLE]
-    requires { ⌜ place < 311 ⌝ }
+    requires { ⌜ place < tableSize ⌝ }
 {
     let changed = with_place(*t, place, of_sign(draws, size));
     read_inside(draws, &changed, count);

@@ -1,5 +1,6 @@
 // Moves of the published table, chains of moves, and moves of random tables.
 ghost use Prim.Native.Nat.{_<_};
+ghost use Rattle.layout.specs.Shape.{cumulus};
 use super::uses::move_and_use;
 use super::uses::use_table;
 use book::runs::move_case;
@@ -17,7 +18,7 @@ use weighted::random::random_table;
 
 // A move whose table is used if it is accepted.
 pub fn move_within(draws: &mut u64, t: &[i64; TABLE], v: usize, size: i64, count: &mut u64)
-    requires { ⌜ v < 5 ⌝ }
+    requires { ⌜ v < cumulus .variables ⌝ }
 {
     let shift = take(draws, minus(0, size), size);
     let mut out = [0i64; TABLE];

@@ -1,5 +1,6 @@
 // What is done with a drawn table.
 ghost use Prim.Native.Nat.{_<_};
+ghost use Rattle.layout.specs.Shape.{cumulus};
 use book::runs::move_case;
 use book::usual::read;
 use layout::TABLE;
@@ -30,7 +31,7 @@ pub fn move_and_use(
     out: &mut [i64; TABLE],
     count: &mut u64,
 ) -> u64
-    requires { ⌜ v < 5 ⌝ }
+    requires { ⌜ v < cumulus .variables ⌝ }
 {
     let state = inside_state(draws, t);
     let number = move_case(t, v, shift, out, count);

@@ -1,6 +1,8 @@
 // The limits that a table holds, states and tables with one number replaced, and tables with no numbers but limits.
-ghost use Prim.Native.Nat.{_≤_, _<_};
+ghost use Prim.Native.Nat.{_*_, _≤_, _<_};
 ghost use lib.ListN.{length};
+ghost use Rattle.layout.specs.Shape.{cumulus};
+ghost use Rattle.layout.specs.Numbers.{tableSize};
 use layout::BLOCK;
 use layout::BLOCKS;
 use layout::LIMITS;
@@ -39,7 +41,7 @@ pub fn published() -> [i64; TABLE] {
 }
 
 fn publish_front(long: &mut [i64])
-    requires { ⌜ 311 ≤ length (now long) ⌝ }
+    requires { ⌜ tableSize ≤ length (now long) ⌝ }
 {
     let from = 0;
     let end = TABLE;
@@ -55,7 +57,7 @@ pub fn lengthened() -> [i64; LONG] {
 
 // The length of a table, and others about it and about those of its parts.
 pub fn table_length(k: usize) -> usize
-    ensures { λ r. ⌜ r ≤ 622 ⌝ }
+    ensures { λ r. ⌜ r ≤ 2 * tableSize ⌝ }
 {
     match k {
         0 => TABLE,
@@ -82,7 +84,7 @@ pub fn promised(v: usize) -> i64 {
 
 // A state with one reading replaced.
 pub fn with_reading(state: [i64; VARIABLES], variable: usize, x: i64) -> [i64; VARIABLES]
-    requires { ⌜ variable < 5 ⌝ }
+    requires { ⌜ variable < cumulus .variables ⌝ }
 {
     let mut changed = state;
     changed[variable] = x;
@@ -112,7 +114,7 @@ pub fn highest(t: &[i64; TABLE], variable: usize) -> i64 {
 
 // A table with one number replaced.
 pub fn with_place(t: [i64; TABLE], place: usize, x: i64) -> [i64; TABLE]
-    requires { ⌜ place < 311 ⌝ }
+    requires { ⌜ place < tableSize ⌝ }
 {
     let mut changed = t;
     changed[place] = x;

@@ -1,5 +1,6 @@
 // Floats and their bit patterns.
 ghost use Prim.Native.Nat.{_<_};
+ghost use Rattle.layout.specs.Shape.{cumulus};
 use layout::VARIABLES;
 use modular::plus;
 use modular::signed;
@@ -78,7 +79,7 @@ pub fn in_eighths(x: i64, more: i64) -> i64 {
 
 // A state with one pattern replaced.
 pub fn with_pattern(state: [u64; VARIABLES], v: usize, pattern: u64) -> [u64; VARIABLES]
-    requires { ⌜ v < 5 ⌝ }
+    requires { ⌜ v < cumulus .variables ⌝ }
 {
     let mut changed = state;
     changed[v] = pattern;

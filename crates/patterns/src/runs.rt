@@ -1,7 +1,8 @@
 // Runs one read with floats and writes its line.
 ghost use mathlib.Core.Path.{_≡_};
-ghost use Prim.Native.Nat.{_+_, _≤_};
+ghost use Prim.Native.Nat.{_+_, _*_, _≤_};
 ghost use lib.ListN.{length};
+ghost use Rattle.layout.specs.Shape.{cumulus};
 use super::bits::float_of;
 use super::bits::pattern_of;
 use book::lines::ROOM;
@@ -33,8 +34,8 @@ fn put_pattern(pattern: u64, line: &mut [u8], at: usize) -> usize
 
 // At most six patterns.
 fn put_patterns(patterns: &[u64], line: &mut [u8], at: usize) -> usize
-    requires { ⌜ at + 102 ≤ length (now line) ⌝ }
-    ensures { λ r. ⌜ r ≤ at + 102 ⌝ }
+    requires { ⌜ at + cumulus .blocks * 17 ≤ length (now line) ⌝ }
+    ensures { λ r. ⌜ r ≤ at + cumulus .blocks * 17 ⌝ }
 {
     let mut end = at;
     let mut k: usize = 0;

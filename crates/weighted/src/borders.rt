@@ -1,5 +1,6 @@
 // Tables whose weight is just the cap.
 ghost use Prim.Native.Nat.{_≤_, _<_};
+ghost use Rattle.layout.specs.Numbers.{limitsSize, blockSize, tableSize};
 use super::terms::largest_within;
 use super::terms::term_at;
 use super::terms::weight_of;
@@ -21,22 +22,22 @@ pub fn of_sign(draws: &mut u64, size: u64) -> i64 {
 
 // The largest number that a place of the table takes alone.
 pub fn full_number(t: &[i64; TABLE], place: usize) -> u64
-    requires { ⌜ 11 ≤ place ⌝ }
+    requires { ⌜ limitsSize ≤ place ⌝ }
 {
     largest_within(term_at(t, place), CAP)
 }
 
 // What the largest number leaves of the cap.
 pub fn rest_of_cap(t: &[i64; TABLE], place: usize) -> u64
-    requires { ⌜ 11 ≤ place ⌝ }
+    requires { ⌜ limitsSize ≤ place ⌝ }
 {
     wrapping_sub_u64(CAP, weight_of(term_at(t, place), full_number(t, place)))
 }
 
 // A place of the same block whose number weighs its own magnitude, in both pieces; never the given place.
 pub fn filling_place(place: usize) -> usize
-    requires { ⌜ (11 ≤ place) × (place < 311) ⌝ }
-    ensures { λ r. ⌜ r < 311 ⌝ }
+    requires { ⌜ (limitsSize ≤ place) × (place < tableSize) ⌝ }
+    ensures { λ r. ⌜ r < tableSize ⌝ }
 {
     let block = (place - LIMITS) / BLOCK;
     let start = LIMITS + BLOCK * block;
@@ -59,8 +60,8 @@ fn size_near(draws: &mut u64, full: u64, way: usize) -> u64 {
 
 // The place in its block at which a block has its number.
 fn chosen(own: usize, same: usize, way: usize) -> usize
-    requires { ⌜ (own < 50) × (same < 50) ⌝ }
-    ensures { λ r. ⌜ r < 50 ⌝ }
+    requires { ⌜ (own < blockSize) × (same < blockSize) ⌝ }
+    ensures { λ r. ⌜ r < blockSize ⌝ }
 {
     if way == 0 {
         return own;

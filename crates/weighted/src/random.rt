@@ -1,5 +1,6 @@
 // Random limits that are good, and random tables near the cap or far below it.
 ghost use Prim.Native.Nat.{_≤_, _<_};
+ghost use Rattle.layout.specs.Shape.{cumulus};
 use super::terms::largest_within;
 use super::terms::term_at;
 use layout::LIMITS;
@@ -23,7 +24,7 @@ fn limit_size(draws: &mut u64) -> i64 {
 
 // Limits of one variable but alpha; both stay 0 in one of six cases, for the reach of 1.
 fn with_limits_of(draws: &mut u64, limits: [i64; LIMITS], v: usize, size: i64) -> [i64; LIMITS]
-    requires { ⌜ v < 5 ⌝ }
+    requires { ⌜ v < cumulus .variables ⌝ }
 {
     if below(draws, 6) == 0 {
         return limits;

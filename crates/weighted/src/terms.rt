@@ -1,5 +1,6 @@
 // What the number at a place of a table weighs, and how large it may be within a weight.
 ghost use Prim.Native.Nat.{_≤_, _<_};
+ghost use Rattle.layout.specs.Numbers.{limitsSize, sideSize};
 use layout::BLOCK;
 use layout::LIMITS;
 use layout::PITCH;
@@ -65,7 +66,7 @@ fn of_degree(degree: usize, power: usize, first: u64, second: u64) -> Term
 
 // The term at a place of a group: rising degree, then rising power of the second variable.
 fn in_group(at: usize, first: u64, second: u64) -> Term
-    requires { ⌜ (at < 15) × ((0 < first) × (0 < second)) ⌝ }
+    requires { ⌜ (at < sideSize) × ((0 < first) × (0 < second)) ⌝ }
     ensures { λ r. ⌜ (0 < r .first) × (0 < r .second) ⌝ }
 {
     if at < 1 {
@@ -85,7 +86,7 @@ fn in_group(at: usize, first: u64, second: u64) -> Term
 
 // The term at a place of a table.
 pub fn term_at(t: &[i64; TABLE], place: usize) -> Term
-    requires { ⌜ 11 ≤ place ⌝ }
+    requires { ⌜ limitsSize ≤ place ⌝ }
     ensures { λ r. ⌜ (0 < r .first) × (0 < r .second) ⌝ }
 {
     let at = (place - LIMITS) % BLOCK;

@@ -1,17 +1,19 @@
--- `book::lines::put_numbers` meets its contract: each number takes at most 21 places of the line. Assumes nothing.
+-- `book::lines::put_numbers` meets its contract: each number takes at most its longest room, and a space. Assumes nothing.
 use mathlib.Core.Logic.{⊎-elim}
 use Prim.Native.Nat.{_≤_, _-_, _+_, _*_}
 use mathlib.Core.Path.{_≡_}
 use lib.ListN.{length}
 use borrow.Author.Needs.{needs}
+use Rattle.layout.specs.Shape.{cumulus}
+use Rattle.printing.specs.Spell.{longestNumber}
 use Rattle.book.proofs.lines.put_numbers.Statement.{statement}
 use Rattle.book.proofs.lines.put_numbers.Tie as tie
 
 abbrev Inv-loop : tie.InvT-loop
-Inv-loop xs line₀ at end₀ k₀ line end k = (k ≤ 6) × (end ≤ at + 21 * k) × (length line ≡ length line₀)
+Inv-loop xs line₀ at end₀ k₀ line end k = (k ≤ cumulus .blocks) × (end ≤ at + (1 + longestNumber) * k) × (length line ≡ length line₀)
 
 abbrev μ-loop : tie.MeasureT-loop
-μ-loop xs line₀ at end₀ k₀ line end k = 6 - k
+μ-loop xs line₀ at end₀ k₀ line end k = cumulus .blocks - k
 
 loop-holds : tie.Need-loop-holds Inv-loop μ-loop
 loop-holds c = search needs

@@ -1,11 +1,12 @@
 -- `makers::moves::last_accepted` meets its contract: the two sizes come closer at each turn. Assumes nothing.
-use Prim.Native.Nat.{_≤_, _<_, _-_}
+use Prim.Native.Nat.{_+_, _≤_, _<_, _-_}
 use borrow.Author.Needs.{needs}
+use Rattle.layout.specs.Limits.{longestShift}
 use Rattle.makers.proofs.moves.last_accepted.Statement.{statement}
 use Rattle.makers.proofs.moves.last_accepted.Tie as tie
 
 abbrev Inv-loop : tie.InvT-loop
-Inv-loop t v is_down accepted₀ beyond₀ accepted beyond = (accepted < beyond) × (beyond ≤ 4001)
+Inv-loop t v is_down accepted₀ beyond₀ accepted beyond = (accepted < beyond) × (beyond ≤ longestShift + 1)
 
 abbrev μ-loop : tie.MeasureT-loop
 μ-loop t v is_down accepted₀ beyond₀ accepted beyond = beyond - accepted

@@ -1,14 +1,15 @@
 -- `makers::plain::bare` meets its contract: the loop counts up to its end. Assumes nothing.
 use Prim.Native.Nat.{_≤_, _-_}
 use borrow.Author.Needs.{needs}
+use Rattle.layout.specs.Numbers.{limitsSize}
 use Rattle.makers.proofs.plain.bare.Statement.{statement}
 use Rattle.makers.proofs.plain.bare.Tie as tie
 
 abbrev Inv-loop : tie.InvT-loop
-Inv-loop limits t₀ k₀ t k = (k ≤ 11)
+Inv-loop limits t₀ k₀ t k = (k ≤ limitsSize)
 
 abbrev μ-loop : tie.MeasureT-loop
-μ-loop limits t₀ k₀ t k = 11 - k
+μ-loop limits t₀ k₀ t k = limitsSize - k
 
 loop-holds : tie.Need-loop-holds Inv-loop μ-loop
 loop-holds c = search needs

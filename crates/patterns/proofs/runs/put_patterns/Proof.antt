@@ -4,14 +4,15 @@ use Prim.Native.Nat.{_≤_, _-_, _+_, _*_}
 use mathlib.Core.Path.{_≡_}
 use lib.ListN.{length}
 use borrow.Author.Needs.{needs}
+use Rattle.layout.specs.Shape.{cumulus}
 use Rattle.patterns.proofs.runs.put_patterns.Statement.{statement}
 use Rattle.patterns.proofs.runs.put_patterns.Tie as tie
 
 abbrev Inv-loop : tie.InvT-loop
-Inv-loop patterns line₀ at end₀ k₀ line end k = (k ≤ 6) × (end ≤ at + 17 * k) × (length line ≡ length line₀)
+Inv-loop patterns line₀ at end₀ k₀ line end k = (k ≤ cumulus .blocks) × (end ≤ at + 17 * k) × (length line ≡ length line₀)
 
 abbrev μ-loop : tie.MeasureT-loop
-μ-loop patterns line₀ at end₀ k₀ line end k = 6 - k
+μ-loop patterns line₀ at end₀ k₀ line end k = cumulus .blocks - k
 
 loop-holds : tie.Need-loop-holds Inv-loop μ-loop
 loop-holds c = search needs

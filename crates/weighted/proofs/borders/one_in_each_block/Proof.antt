@@ -2,14 +2,15 @@
 use Prim.Native.Nat.{_≤_, _<_, _-_, _%_}
 use mathlib.Core.Path.{_≡_}
 use borrow.Author.Needs.{needs}
+use Rattle.layout.specs.Numbers.{limitsSize, blockSize, tableSize}
 use Rattle.weighted.proofs.borders.one_in_each_block.Statement.{statement}
 use Rattle.weighted.proofs.borders.one_in_each_block.Tie as tie
 
 abbrev Inv-loop : tie.InvT-loop
-Inv-loop draws₀ way t₀ same start₀ draws t start = (11 ≤ start) × (start ≤ 311) × (start % 50 ≡ 11) × (same < 50)
+Inv-loop draws₀ way t₀ same start₀ draws t start = (limitsSize ≤ start) × (start ≤ tableSize) × (start % blockSize ≡ limitsSize) × (same < blockSize)
 
 abbrev μ-loop : tie.MeasureT-loop
-μ-loop draws₀ way t₀ same start₀ draws t start = 311 - start
+μ-loop draws₀ way t₀ same start₀ draws t start = tableSize - start
 
 bare-requires : tie.Need-bare-requires Inv-loop μ-loop
 bare-requires c κs = search needs

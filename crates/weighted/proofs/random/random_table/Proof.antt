@@ -1,14 +1,15 @@
 -- `weighted::random::random_table` meets its contract: the loop counts up to its end. Assumes nothing.
 use Prim.Native.Nat.{_≤_, _-_}
 use borrow.Author.Needs.{needs}
+use Rattle.layout.specs.Numbers.{limitsSize, tableSize}
 use Rattle.weighted.proofs.random.random_table.Statement.{statement}
 use Rattle.weighted.proofs.random.random_table.Tie as tie
 
 abbrev Inv-loop : tie.InvT-loop
-Inv-loop draws₀ t₀ weight density place₀ draws t place = (11 ≤ place) × (place ≤ 311)
+Inv-loop draws₀ t₀ weight density place₀ draws t place = (limitsSize ≤ place) × (place ≤ tableSize)
 
 abbrev μ-loop : tie.MeasureT-loop
-μ-loop draws₀ t₀ weight density place₀ draws t place = 311 - place
+μ-loop draws₀ t₀ weight density place₀ draws t place = tableSize - place
 
 good-limits-requires : tie.Need-good-limits-requires Inv-loop μ-loop
 good-limits-requires c κs = search needs
