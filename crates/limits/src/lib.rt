@@ -19,11 +19,11 @@ ghost use Rattle.layout.specs.Refusals.{outside, first, _when_};
 ghost use Rattle.layout.specs.Reading.{readings, inside};
 ghost use Rattle.layout.specs.Moving.{owner, movedLimit, movedLimits};
 
-// The least limit that is in range.
-const LEAST: i64 = -2000;
-
 // The greatest limit that is in range.
 const MOST: i64 = 2000;
+
+// And the least.
+const LEAST: i64 = -MOST;
 
 // The cut of variable 0 stands between its lowest and its highest reading.
 const CUT: usize = 1;

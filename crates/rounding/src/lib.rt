@@ -20,9 +20,9 @@ pub enum Step {
 }
 
 // No limit lies as far from 0 as these.
-const LEAST_NEAR: f64 = -2001.0;
-
 const MOST_NEAR: f64 = 2001.0;
+
+const LEAST_NEAR: f64 = -MOST_NEAR;
 
 // q, or the next, where a magnitude lies just half-way between them: the even one.
 fn tie(q: u64) -> u64
