@@ -1,7 +1,9 @@
 // One block of a table: the value of its coefficient, and its groups moved.
 ghost use mathlib.Core.Path.{_≡_};
 ghost use Prim.Native.Nat.{_+_, _<_, _≤_};
+ghost use lib.IntN.{ℤ};
 ghost use lib.ListN.{length, take, drop};
+ghost use Rattle.polynomials.specs.Binomial.{multipliedRows, shiftIn};
 ghost use Rattle.polynomials.specs.Group.{value};
 ghost use Rattle.polynomials.specs.Ready.{Readable};
 ghost use Rattle.polynomials.specs.Groups.{total, movedGroup};
@@ -53,17 +55,27 @@ fn copy(from: &[i64], out: &mut [i64])
     }
 }
 
-// A group in the variables u and v, moved by `shift` in one of the table's variables: in u, in v, or in neither.
-fn move_part(from: &[i64], out: &mut [i64], u: usize, v: usize, variable: usize, shift: i64)
-    requires { ⌜ (length (now out) ≡ length (now from)) × ShiftableGroup u v variable shift (now from) ⌝ }
-    ensures { λ r. ⌜ now (out .exit) ≡ movedGroup variable shift (grouped u v (now (from .entry))) .numbers ⌝ }
+// A group in the variables u and v, moved in one of the table's variables: in u, in v, or in neither. The rows are the powers of
+// the variable and the shift multiplied out.
+fn move_part(
+    from: &[i64],
+    out: &mut [i64],
+    u: usize,
+    v: usize,
+    variable: usize,
+    rows: &[[i64; 5]; 5],
+)
+    ghost { ℤ }
+    requires { λ shift. ⌜ shiftIn (now rows) ≡ shift ⌝ }
+    requires { λ shift. ⌜ (now rows ≡ multipliedRows shift) × ((length (now out) ≡ length (now from)) × ShiftableGroup u v variable shift (now from)) ⌝ }
+    ensures { λ shift r. ⌜ now (out .exit) ≡ movedGroup variable shift (grouped u v (now (from .entry))) .numbers ⌝ }
 {
     if u == variable {
-        polynomials::move_group(from, out, Variable::First, shift);
+        polynomials::move_group(from, out, Variable::First, rows);
         return;
     }
     if v == variable {
-        polynomials::move_group(from, out, Variable::Second, shift);
+        polynomials::move_group(from, out, Variable::Second, rows);
         return;
     }
     copy(from, out);
@@ -78,10 +90,12 @@ fn move_between(
     u: usize,
     v: usize,
     variable: usize,
-    shift: i64,
+    rows: &[[i64; 5]; 5],
 )
-    requires { ⌜ Between (now from) (now out) start end u v variable shift ⌝ }
-    ensures { λ r. ⌜ now (out .exit) ≡ placed (now (out .entry)) start end (movedGroup variable shift (grouped u v (between (now (from .entry)) start end)) .numbers) ⌝ }
+    ghost { ℤ }
+    requires { λ shift. ⌜ shiftIn (now rows) ≡ shift ⌝ }
+    requires { λ shift. ⌜ (now rows ≡ multipliedRows shift) × Between (now from) (now out) start end u v variable shift ⌝ }
+    ensures { λ shift r. ⌜ now (out .exit) ≡ placed (now (out .entry)) start end (movedGroup variable shift (grouped u v (between (now (from .entry)) start end)) .numbers) ⌝ }
 {
     move_part(
         &from[start..end],
@@ -89,17 +103,19 @@ fn move_between(
         u,
         v,
         variable,
-        shift,
+        rows,
     );
 }
 
 // A block with each of its groups moved, written into the part of the output that belongs to it.
-pub fn move_block(from: &[i64], out: &mut [i64], variable: usize, shift: i64)
-    requires { ⌜ (length (now out) ≡ length (now from)) × Shiftable variable shift (now from) ⌝ }
-    ensures { λ r. ⌜ now (out .exit) ≡ movedBlock cumulus variable shift (now (from .entry)) ⌝ }
+pub fn move_block(from: &[i64], out: &mut [i64], variable: usize, rows: &[[i64; 5]; 5])
+    ghost { ℤ }
+    requires { λ shift. ⌜ shiftIn (now rows) ≡ shift ⌝ }
+    requires { λ shift. ⌜ (now rows ≡ multipliedRows shift) × ((length (now out) ≡ length (now from)) × Shiftable variable shift (now from)) ⌝ }
+    ensures { λ shift r. ⌜ now (out .exit) ≡ movedBlock cumulus variable shift (now (from .entry)) ⌝ }
 {
-    move_between(from, out, 0, PITCH, 0, 3, variable, shift);
-    move_between(from, out, PITCH, XI_START, 0, 3, variable, shift);
-    move_between(from, out, XI_START, ZETA_START, 1, 2, variable, shift);
-    move_between(from, out, ZETA_START, BLOCK, 1, 4, variable, shift);
+    move_between(from, out, 0, PITCH, 0, 3, variable, rows);
+    move_between(from, out, PITCH, XI_START, 0, 3, variable, rows);
+    move_between(from, out, XI_START, ZETA_START, 1, 2, variable, rows);
+    move_between(from, out, ZETA_START, BLOCK, 1, 4, variable, rows);
 }

@@ -5,7 +5,7 @@
 --   product-within                           law 5: a number times some of its powers
 --   weight-moved                             law 6: the moved group at its reaches weighs no more than the old one with the moved variable's reach longer by |s|
 --   moved-within, moved-part-within, moved-some-within   law 6: a number of the moved group, the sum of the first terms that make it, the sum of any of them
---   given-within, power-within               law 6: one of those terms, and the product without its binomial number
+--   given-within                             law 6: one of those terms
 use mathlib.Core.Path.{_≡_, refl, sym, _∙_, ap, ap₂, subst}
 use mathlib.Core.Bool.{Bool, true, false, cond}
 use mathlib.Core.List.{List, map}
@@ -18,7 +18,7 @@ use Rattle.whole.proofs.Magnitudes.{natAbs-+, natAbs-*, natAbs-pow, Within, wit
 use Rattle.polynomials.specs.Numbers.{ints, nats}
 use Rattle.polynomials.specs.Sum.{sum, listed}
 use Rattle.polynomials.specs.Order.{powers, place}
-use Rattle.polynomials.specs.Binomial.{choose}
+use Rattle.polynomials.specs.Binomial.{choose, multipliedOut}
 use Rattle.polynomials.specs.Group.{own, raised, number, term, evaluated, given, movedNumber, replaced, value, weight, moved}
 use Rattle.polynomials.specs.declared.Variable.{Variable}
 use Rattle.polynomials.specs.declared.Variable.the-variants.{First, Second}
@@ -123,7 +123,7 @@ module _ (w : Variable) (s : ℤ) (l : List ℤ) where
   unfolding given
   given-bound p q j =
       rw (raised-sizes w j p q)
-      (within-* (within-* (within (raised w j (number ints l) p q)) (within-pow (within s) j)) (within (pos (choose (own w p q + j) (own w p q)))) .size)
+      (within-* (within (raised w j (number ints l) p q)) (within-* (within (pos (choose (own w p q + j) (own w p q)))) (within-pow (within s) (own w p q + j - own w p q))) .size)
 
   -- the sum of the first terms of a moved number, against the same of the magnitudes
   moved-bound : (p q j : ℕ) → j ≤ length l → natAbs (sum ints j (given ints w s l p q)) ≤ movedNumber nats w (natAbs s) (sizes l) p q
@@ -192,21 +192,3 @@ module _ (w : Variable) (s : ℤ) (l : List ℤ) where
       given-within j b =
           N.le-trans (given-bound p q j)
           (N.le-trans (sum-term (length (sizes l)) j (given nats w (natAbs s) (sizes l) p q) (omega (arith, length-map l natAbs))) moved-weight)
-
-    -- a number times some of the powers of s that it is given with
-    pub power-within : 1 ≤ r → 1 ≤ t → (p q i : ℕ) → place p q < length l → i ≤ own w p q → natAbs (number ints l p q *ℤ pow s i) ≤ longerWeight
-    unfolding number
-    power-within hr ht p q i h b =
-        N.le-trans (within-* (within (number ints l p q)) (within-pow (record { size = N.le-refl (natAbs s) }) i) .size) (powers-of w b)
-      where
-        powers-of : (v : Variable) → i ≤ own v p q → natAbs (number ints l p q) * natAbs s ^ i ≤ weight l (own v (r + natAbs s) r) (own v t (t + natAbs s))
-        powers-of First b =
-            let k : natAbs s ^ i ≤ (r + natAbs s) ^ i = N.pow-le-pow-left (omega arith) i in
-            let m = weight-number (r + natAbs s) t (omega arith) ht l (place p q) i 0 h (omega (arith, powers-place p q .0)) (omega arith) in
-            N.le-trans (N.mul-le-mul-left (natAbs (getD l (place p q) (pos 0))) k)
-            (omega (arith, ap (λ a. natAbs (getD l (place p q) (pos 0)) * (r + natAbs s) ^ i * a) (N.pow-zero t)))
-        powers-of Second b =
-            let k : natAbs s ^ i ≤ (t + natAbs s) ^ i = N.pow-le-pow-left (omega arith) i in
-            let m = weight-number r (t + natAbs s) hr (omega arith) l (place p q) 0 i h (omega arith) (omega (arith, powers-place p q .1)) in
-            N.le-trans (N.mul-le-mul-left (natAbs (getD l (place p q) (pos 0))) k)
-            (omega (arith, ap (λ a. natAbs (getD l (place p q) (pos 0)) * a * (t + natAbs s) ^ i) (N.pow-zero r)))

@@ -1,9 +1,10 @@
--- What the code reads from a row of powers.
+-- What the code reads from a row of powers, and from the rows of powers multiplied out.
 --   row-power   the number at the place of a power, read from the row's bits
+--   row-number, shift-in   the number before a power in a row, and the shift of the rows
 --   few-powers  in a group of at most 15 numbers each total degree is below 5
 --   factor-natural, factor-positive, factor-fits   the product of two reaches' powers
 use mathlib.Core.Path.{_≡_, sym, _∙_, ap, ap₂}
-use mathlib.Core.List.{List}
+use mathlib.Core.List.{List, []}
 use Prim.Native.Nat.{ℕ, zero, suc, _+_, _*_, _^_, _≤_, _<_}
 use native.Mathlib.Nat as N
 use native.Mathlib.Omega.{arith}
@@ -15,10 +16,12 @@ use lib.Signed.{mag, _≤ℤ_}
 use mir.Syntax.{w64}
 use mir.Val.{SFits, toZ, ofZ}
 use mir.Facts.{toZ-ofZ}
-use Rattle.whole.proofs.Ring.{pow-zero, pow-suc}
+use Rattle.whole.proofs.Ring.{unit-*ℤ, pow-zero, pow-one, pow-suc}
 use Rattle.whole.proofs.Order.{le-out}
 use Rattle.polynomials.specs.Sum.{listed}
 use Rattle.polynomials.specs.Order.{powers, below, size}
+use Rattle.polynomials.specs.Numbers.{ints}
+use Rattle.polynomials.specs.Binomial.{choose, multipliedOut, multipliedRows, shiftIn}
 use Rattle.polynomials.specs.Limits.{farthest, highestDegree}
 use Rattle.polynomials.specs.declared.Powers.{Powers}
 use Rattle.polynomials.proofs.Places.{degree-powers}
@@ -28,6 +31,18 @@ pub row-power : (x : ℤ) (row : List ℤ) (p : ℕ) {q : ℕ} → SFits w64 x �
     → toZ w64 (ofZ w64 (getD row p (pos 0))) ≡ pow x q
 row-power x row p f e given h r =
     toZ-ofZ (sfits-of {z = getD row p (pos 0)} given) ∙ ap (λ l. getD l p (pos 0)) e ∙ getD-listed 5 _ p (pos 0) h ∙ ap (λ z. pow z p) (toZ-ofZ f) ∙ ap (pow x) r
+
+-- from the powers of v + s multiplied out
+module _ (s : ℤ) {rows : List (List ℤ)} (e : rows ≡ multipliedRows s) where
+  pub row-number : (k p : ℕ) → k < 5 → p < 5 → getD (getD rows k []) p (pos 0) ≡ multipliedOut ints s k p
+  row-number k p h l =
+      ap (λ r. getD (getD r k []) p (pos 0)) e ∙ ap (λ row. getD row p (pos 0)) (getD-listed 5 (λ k. listed 5 (multipliedOut ints s k)) k [] h)
+      ∙ getD-listed 5 (multipliedOut ints s k) p (pos 0) l
+
+  -- such rows tell their shift
+  pub shift-in : shiftIn rows ≡ s
+  unfolding choose shiftIn
+  shift-in = row-number 1 0 (omega arith) (omega arith) ∙ unit-*ℤ (pow s 1) ∙ pow-one s
 
 pub few-powers : (w : Powers) (k n : ℕ) → n ≤ size highestDegree → k < n → w ≡ powers k → w .first + w .second < 5
 unfolding below

@@ -6,7 +6,7 @@ use lib.ListN.{length, getD}
 use Rattle.polynomials.specs.Numbers.{Numbers, ints, nats}
 use Rattle.polynomials.specs.Sum.{sum, listed}
 use Rattle.polynomials.specs.Order.{powers, place}
-use Rattle.polynomials.specs.Binomial.{choose}
+use Rattle.polynomials.specs.Binomial.{multipliedOut}
 use Rattle.polynomials.specs.declared.Variable.{Variable}
 use Rattle.polynomials.specs.declared.Variable.the-variants.{First, Second}
 
@@ -33,9 +33,9 @@ module _ (S : Numbers) where
   unfoldable pub evaluated : List (S .N) → S .N → S .N → S .N
   evaluated l x y = sum S (length l) (term l x y)
 
-  -- where u is replaced by u + s and multiplied out, uᵖ⁺ʲvᵠ gives its number times sʲ, as many times as (p + j over p), to uᵖvᵠ; the same for v
+  -- where u is replaced by u + s and multiplied out, uᵖ⁺ʲvᵠ gives its number times what stands before uᵖ in (u + s)ᵖ⁺ʲ to uᵖvᵠ; the same for v
   unfoldable pub given : Variable → S .N → List (S .N) → ℕ → ℕ → ℕ → S .N
-  given w s l p q j = S .mul (S .mul (raised w j (number l) p q) (S .power s j)) (S .of (choose (own w p q + j) (own w p q)))
+  given w s l p q j = S .mul (raised w j (number l) p q) (multipliedOut S s (own w p q + j) (own w p q))
 
   unfoldable pub movedNumber : Variable → S .N → List (S .N) → ℕ → ℕ → S .N
   movedNumber w s l p q = sum S (length l) (given w s l p q)

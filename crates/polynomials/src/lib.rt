@@ -1,12 +1,12 @@
 // Polynomials in two variables u and v, held as slices of numbers in the order of `specs/Order.antt`.
 ghost use mathlib.Core.Path.{_≡_};
 ghost use Prim.Native.Nat.{_+_, _*_, _^_, _≤_, _<_};
-ghost use lib.IntN.{pos, natAbs, pow};
+ghost use lib.IntN.{ℤ, natAbs, pow};
 ghost use lib.ListN.{length};
 ghost use Rattle.polynomials.specs.Numbers.{ints};
 ghost use Rattle.polynomials.specs.Sum.{listed};
 ghost use Rattle.polynomials.specs.Order.{next, place};
-ghost use Rattle.polynomials.specs.Binomial.{choose, binomials};
+ghost use Rattle.polynomials.specs.Binomial.{multipliedOut, multipliedRows, shiftIn};
 ghost use Rattle.polynomials.specs.Group.{own, value, movedNumber, moved};
 ghost use Rattle.polynomials.specs.Limits.{cap, farthest, highestDegree, against};
 ghost use Rattle.polynomials.specs.Ready.{Readable, Movable};
@@ -14,8 +14,14 @@ ghost use Rattle.polynomials.specs.Ready.{Readable, Movable};
 // No weight may pass it: 9 x 10^18.
 pub const CAP: u64 = 9_000_000_000_000_000_000;
 
-// The binomial numbers for powers 0 to 4: k over p stands where a group has the power k - p of u and p of v.
-const TRIANGLE: [i64; 15] = [1, 1, 1, 1, 2, 1, 1, 3, 3, 1, 1, 4, 6, 4, 1];
+// The binomial numbers for powers 0 to 4: k over p stands in row k at p.
+const BINOMIALS: [[i64; 5]; 5] = [
+    [1, 0, 0, 0, 0],
+    [1, 1, 0, 0, 0],
+    [1, 2, 1, 0, 0],
+    [1, 3, 3, 1, 0],
+    [1, 4, 6, 4, 1],
+];
 
 // One of the two variables of a group.
 pub enum Variable {
@@ -108,12 +114,33 @@ pub fn powers_of(x: i64) -> [i64; 5]
     [1, x, square, cube, fourth]
 }
 
-// k over p.
-fn binomial(triangle: &[i64], k: usize, p: usize) -> i64
-    requires { ⌜ (now triangle ≡ binomials) × ((k ≤ highestDegree) × (p ≤ k)) ⌝ }
-    ensures { λ r. ⌜ r ≡ pos (choose k p) ⌝ }
+// (v + s)^k multiplied out: at p what stands before v^p.
+fn multiplied_row(s: i64, k: usize) -> [i64; 5]
+    requires { ⌜ (natAbs s ≤ farthest) × (k ≤ highestDegree) ⌝ }
+    ensures { λ r. ⌜ r ≡ listed 5 (multipliedOut ints s k) ⌝ }
 {
-    triangle[k * (k + 1) / 2 + p]
+    let powers = powers_of(s);
+    let mut row = BINOMIALS[k];
+    let mut p: usize = 0;
+    while p < k {
+        row[p] = row[p] * powers[k - p];
+        p += 1;
+    }
+    row
+}
+
+// The powers 0 to 4 of v + s multiplied out, a row for each.
+pub fn multiplied_out(s: i64) -> [[i64; 5]; 5]
+    requires { ⌜ natAbs s ≤ farthest ⌝ }
+    ensures { λ r. ⌜ r ≡ multipliedRows s ⌝ }
+{
+    [
+        multiplied_row(s, 0),
+        multiplied_row(s, 1),
+        multiplied_row(s, 2),
+        multiplied_row(s, 3),
+        multiplied_row(s, 4),
+    ]
 }
 
 // The value of a group at the readings x and y.
@@ -151,29 +178,21 @@ pub fn add_term(sum: u64, number: i64, factor: u64) -> Weighed
     Weighed::Within(sum + m * factor)
 }
 
-// The number that stands at the place `at`, before the powers `w`, once the group is moved by s. The larger powers of the
-// variable stand further and further on; each number is multiplied by its power of s first, so that nothing is formed
-// that the weight does not bound.
-fn moved_number(
-    from: &[i64],
-    which: Variable,
-    s: i64,
-    at: usize,
-    w: Powers,
-    triangle: &[i64],
-) -> i64
-    requires { ⌜ (now triangle ≡ binomials) × (Movable which s (now from) × ((at ≡ place (w .first) (w .second)) × (at < length (now from)))) ⌝ }
-    ensures { λ r. ⌜ r ≡ movedNumber ints which s (now (from .entry)) (w .first) (w .second) ⌝ }
+// The number that stands at the place `at`, before the powers `w`, once the group is moved by s: the larger powers of the
+// variable stand further and further on, and each gives its number times what stands before the power of `w` in its row.
+fn moved_number(from: &[i64], which: Variable, at: usize, w: Powers, rows: &[[i64; 5]; 5]) -> i64
+    ghost { ℤ }
+    requires { λ s. ⌜ shiftIn (now rows) ≡ s ⌝ }
+    requires { λ s. ⌜ (now rows ≡ multipliedRows s) × (Movable which s (now from) × ((at ≡ place (w .first) (w .second)) × (at < length (now from)))) ⌝ }
+    ensures { λ s r. ⌜ r ≡ movedNumber ints which s (now (from .entry)) (w .first) (w .second) ⌝ }
 {
     let mut gap = w.gap(which);
     let mut sum: i64 = 0;
-    let mut power: i64 = 1;
     let mut i = at;
     let mut j: usize = 0;
     while i < from.len() {
         let own = w.own(which);
-        sum += from[i] * power * binomial(triangle, own + j, own);
-        power = power * s;
+        sum += from[i] * rows[own + j][own];
         i += gap;
         gap += 1;
         j += 1;
@@ -181,19 +200,20 @@ fn moved_number(
     sum
 }
 
-// The group moved by s in one variable, written into `out`.
-pub fn move_group(from: &[i64], out: &mut [i64], which: Variable, s: i64)
-    requires { ⌜ Movable which s (now from) × (length (now out) ≡ length (now from)) ⌝ }
-    ensures { λ r. ⌜ now (out .exit) ≡ moved which s (now (from .entry)) ⌝ }
+// The group moved by s in one variable, written into `out`, by the powers of v + s multiplied out.
+pub fn move_group(from: &[i64], out: &mut [i64], which: Variable, rows: &[[i64; 5]; 5])
+    ghost { ℤ }
+    requires { λ s. ⌜ shiftIn (now rows) ≡ s ⌝ }
+    requires { λ s. ⌜ (now rows ≡ multipliedRows s) × (Movable which s (now from) × (length (now out) ≡ length (now from))) ⌝ }
+    ensures { λ s r. ⌜ now (out .exit) ≡ moved which s (now (from .entry)) ⌝ }
 {
-    let triangle = TRIANGLE;
     let mut w = Powers {
         first: 0,
         second: 0,
     };
     let mut at: usize = 0;
     while at < from.len() {
-        let x = moved_number(from, which, s, at, w, &triangle);
+        let x = moved_number(from, which, at, w, rows);
         out[at] = x;
         w = w.next();
         at += 1;

@@ -24,6 +24,7 @@ use layout::refusals::NO_VARIABLE;
 use layout::refusals::WRONG_OUTPUT;
 use layout::refusals::WRONG_TABLE;
 use limits::Limits;
+use polynomials::multiplied_out;
 use quick::within_cap;
 
 // No shift from one limit within -2000..2000 to another is longer.
@@ -85,11 +86,12 @@ fn write_moved(table: &[i64], variable: usize, shift: i64, out: &mut [i64])
 {
     let limits = Limits::of(table).moved(variable, shift);
     write_limits(limits, out);
+    let rows = multiplied_out(shift);
     let mut block: usize = 0;
     while block < BLOCKS {
         let start = LIMITS + BLOCK * block;
         let end = start + BLOCK;
-        move_block(&table[start..end], &mut out[start..end], variable, shift);
+        move_block(&table[start..end], &mut out[start..end], variable, &rows);
         block += 1;
     }
 }

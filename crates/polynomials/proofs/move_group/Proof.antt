@@ -13,7 +13,7 @@ use mir.Facts.{toZ-ofZ}
 use Rattle.polynomials.specs.Numbers.{ints}
 use Rattle.polynomials.specs.Sum.{listed}
 use Rattle.polynomials.specs.Order.{powers, below, place}
-use Rattle.polynomials.specs.Binomial.{choose}
+use Rattle.polynomials.specs.Binomial.{shiftIn}
 use Rattle.polynomials.specs.Group.{movedNumber, replaced}
 use Rattle.polynomials.specs.Ready.{Movable}
 use Rattle.polynomials.specs.declared.Powers.{Powers}
@@ -29,39 +29,35 @@ movedAt : Variable → ℤ → List ℤ → ℕ → ℤ
 movedAt w s l k = movedNumber ints w s l (powers k .first) (powers k .second)
 
 abbrev Inv-loop : tie.InvT-loop
-Inv-loop from out₀ which s triangle w₀ at₀ out w at =
-    (at ≤ length from) × (length out ≡ length from) × (w ≡ powers at) × (take at out ≡ listed at (movedAt which (toZ w64 s) from))
+Inv-loop from out₀ which rows w₀ at₀ out w at =
+    (at ≤ length from) × (length out ≡ length from) × (w ≡ powers at) × (take at out ≡ listed at (movedAt which (shiftIn rows) from))
 
 abbrev μ-loop : tie.MeasureT-loop
-μ-loop from out₀ which s triangle w₀ at₀ out w at = length from - at
+μ-loop from out₀ which rows w₀ at₀ out w at = length from - at
 
 low : (c : tie.In-loop Inv-loop μ-loop) → c .before .loop .w .first + c .before .loop .w .second < 5
 low c =
-    few-powers (c .before .loop .w) (c .before .loop .at) (length (c .before .before .args .from .now)) (c .before .before .pre .0 .few) (c .loop-test .taken) (c .before .loop .inv .2)
+    few-powers (c .before .loop .w) (c .before .loop .at) (length (c .before .before .args .from .now)) (c .before .before .pre .1 .0 .few) (c .loop-test .taken) (c .before .loop .inv .2)
 
 loop-holds : tie.Need-loop-holds Inv-loop μ-loop
 unfolding powers listed
-loop-holds c = (omega arith, c .pre .1, refl, refl)
-
-slice-aggregate-moved-number : tie.Need-slice-aggregate-moved-number Inv-loop μ-loop
-slice-aggregate-moved-number c = search needs
+loop-holds c = (omega arith, c .pre .1 .1, refl, refl)
 
 moved-number-requires : tie.Need-moved-number-requires Inv-loop μ-loop
-unfolding choose listed powers below
 moved-number-requires c κs =
-    let a = c .before .before .before in
-    let k = c .before .before .loop .at in
-    let here = sym (place-powers k) ∙ ap (λ (w : Powers). place (w .first) (w .second)) (sym (c .before .before .loop .inv .2)) in
-    (refl, (subst (λ z. Movable (a .args .which) z (a .args .from .now)) (sym (toZ-ofZ (a .fits .s))) (a .pre .0), (here, c .before .loop-test .taken)))
+    let a = c .before .before in
+    let k = c .before .loop .at in
+    let here = sym (place-powers k) ∙ ap (λ (w : Powers). place (w .first) (w .second)) (sym (c .before .loop .inv .2)) in
+    (a .pre .0, (a .pre .1 .0, (here, c .loop-test .taken)))
 
 mul-x : tie.Need-mul-x Inv-loop μ-loop
 mul-x c = search needs
 
 slice-set-from-x : tie.Need-slice-set-from-x Inv-loop μ-loop
-slice-set-from-x c = omega (arith, c .before .before .before .loop .inv .1)
+slice-set-from-x c = omega (arith, c .before .before .loop .inv .1)
 
 next-requires : tie.Need-next-requires Inv-loop μ-loop
-next-requires c κs = omega (arith, low (c .before .before))
+next-requires c κs = omega (arith, low (c .before))
 
 add-at : tie.Need-add-at Inv-loop μ-loop
 add-at c = search needs
@@ -73,28 +69,27 @@ loop-again : tie.Need-loop-again Inv-loop μ-loop
 unfolding movedAt
 loop-again c =
     let d = c .before in
-    let l = d .before .before .before .loop in
-    let a = d .before .before .before .before in
-    let number : toZ w64 (ofZ w64 (d .moved-number .result)) ≡ movedAt (a .args .which) (toZ w64 (ofZ w64 (a .args .s))) (a .args .from .now) (l .at) =
+    let l = d .before .before .loop in
+    let a = d .before .before .before in
+    let number : toZ w64 (ofZ w64 (d .moved-number .result)) ≡ movedAt (a .args .which) (shiftIn (a .args .rows .now)) (a .args .from .now) (l .at) =
     toZ-ofZ (sfits-of {z = d .moved-number .result} (d .moved-number .ok)) ∙ d .moved-number .ensures
-    ∙ ap (λ (w : Powers). movedNumber ints (a .args .which) (toZ w64 (ofZ w64 (a .args .s))) (a .args .from .now) (w .first) (w .second)) (l .inv .2)
+    ∙ ap (λ (w : Powers). movedNumber ints (a .args .which) (shiftIn (a .args .rows .now)) (a .args .from .now) (w .first) (w .second)) (l .inv .2)
     in (
-      omega (arith, d .before .before .loop-test .taken),
+      omega (arith, d .before .loop-test .taken),
       length-set (l .out) (l .at) _ ∙ l .inv .1,
       c .next .ensures ∙ powers-more (l .w) (l .at) (l .inv .2),
-      listed-more (l .out) (movedAt (a .args .which) (toZ w64 (ofZ w64 (a .args .s))) (a .args .from .now)) (l .at) _ (omega (arith, l .inv .1, d .before .before .loop-test .taken)) (l .inv .3) number,
+      listed-more (l .out) (movedAt (a .args .which) (shiftIn (a .args .rows .now)) (a .args .from .now)) (l .at) _ (omega (arith, l .inv .1, d .before .loop-test .taken)) (l .inv .3) number,
     )
 
 same-length : tie.Need-same-length Inv-loop μ-loop
-same-length c = c .before .loop .inv .1 ∙ sym (c .before .before .pre .1)
+same-length c = c .before .loop .inv .1 ∙ sym (c .before .before .pre .1 .1)
 
 returns : tie.Need-returns Inv-loop μ-loop
 unfolding movedAt replaced
 returns c =
     let l = c .before .loop in
     let a = c .before .before in
-    listed-all (l .out) (movedAt (a .args .which) (toZ w64 (ofZ w64 (a .args .s))) (a .args .from .now)) (l .at) (length (a .args .from .now)) (l .inv .1) (omega (arith, l .inv .0, c .loop-test .left)) (l .inv .3)
-    ∙ ap (λ z. listed (length (a .args .from .now)) (movedAt (a .args .which) z (a .args .from .now))) (toZ-ofZ (a .fits .s))
+    listed-all (l .out) (movedAt (a .args .which) (shiftIn (a .args .rows .now)) (a .args .from .now)) (l .at) (length (a .args .from .now)) (l .inv .1) (omega (arith, l .inv .0, c .loop-test .left)) (l .inv .3)
 
 pub move-group-spec : {M : Type 1} → statement M
 move-group-spec =
@@ -103,7 +98,6 @@ move-group-spec =
     Inv-loop
     μ-loop
     loop-holds
-    slice-aggregate-moved-number
     moved-number-requires
     mul-x
     slice-set-from-x

@@ -1,0 +1,34 @@
+-- `polynomials::multiplied_out` meets its contract, row by row. Assumes nothing.
+use mathlib.Core.Path.{_≡_, _∙_, ap}
+use mathlib.Core.List.{List, [], _∷_}
+use borrow.Author.Needs.{needs}
+use mir.Facts.{toZ-ofZ}
+use Rattle.polynomials.specs.Sum.{listed}
+use Rattle.polynomials.specs.Binomial.{multipliedRows}
+use Rattle.polynomials.proofs.multiplied_out.Statement.{statement}
+use Rattle.polynomials.proofs.multiplied_out.Tie as tie
+
+multiplied-row-requires : tie.Need-multiplied-row-requires
+multiplied-row-requires c κs = search needs
+
+multiplied-row-requires-2 : tie.Need-multiplied-row-requires-2
+multiplied-row-requires-2 c κs = search needs
+
+multiplied-row-requires-3 : tie.Need-multiplied-row-requires-3
+multiplied-row-requires-3 c κs = search needs
+
+multiplied-row-requires-4 : tie.Need-multiplied-row-requires-4
+multiplied-row-requires-4 c κs = search needs
+
+multiplied-row-requires-5 : tie.Need-multiplied-row-requires-5
+multiplied-row-requires-5 c κs = search needs
+
+returns : tie.Need-returns
+unfolding listed
+returns c =
+    let b = c .before .before .before .before in
+    (λ i. b .multiplied-row .ensures i ∷ c .before .before .before .multiplied-row2 .ensures i ∷ c .before .before .multiplied-row3 .ensures i ∷ c .before .multiplied-row4 .ensures i ∷ c .multiplied-row5 .ensures i ∷ [])
+    ∙ ap multipliedRows (toZ-ofZ (b .before .fits .s))
+
+pub multiplied-out-spec : {M : Type 1} → statement M
+multiplied-out-spec = tie.close (tie.spec multiplied-row-requires multiplied-row-requires-2 multiplied-row-requires-3 multiplied-row-requires-4 multiplied-row-requires-5 returns)
