@@ -10,6 +10,7 @@ use lib.ListN.{take, drop}
 use lib.Seq.{take-take, drop-drop, take-nil, drop-nil}
 use Rattle.polynomials.specs.Order.{below}
 use Rattle.layout.specs.Shape.{kindsLength, blockStart, cumulus}
+use Rattle.layout.specs.Numbers.{limitsSize, pitchSize, sideSize, xiStart, zetaStart, blockSize}
 use Rattle.layout.specs.Blocks.{piece, groups, chosen, coefficient}
 use Rattle.blocks.specs.Ready.{grouped}
 
@@ -20,23 +21,23 @@ part-part n (suc a) (suc m) [] h = refl
 part-part n (suc a) (suc m) (x ∷ l) h = part-part n a m l (omega arith)
 
 -- n numbers from the place a of what starts at s
-part-at : {A : Type 0} (n a s : ℕ) (l : List A) → a + n ≤ 50 → take n (drop a (take 50 (drop s l))) ≡ take n (drop (s + a) l)
-part-at n a s l h = part-part n a 50 (drop s l) h ∙ ap (take n) (drop-drop a s l)
+part-at : {A : Type 0} (n a s : ℕ) (l : List A) → a + n ≤ blockSize → take n (drop a (take blockSize (drop s l))) ≡ take n (drop (s + a) l)
+part-at n a s l h = part-part n a blockSize (drop s l) h ∙ ap (take n) (drop-drop a s l)
 
 -- the two side groups, as they are reached group by group
-xi-part : (t : List ℤ) (b : ℕ) → take 15 (drop 10 (drop 10 (take 50 (drop (11 + 50 * b) t)))) ≡ take 15 (drop (11 + 50 * b + 20) t)
-xi-part t b = ap (take 15) (drop-drop 10 10 (take 50 (drop (11 + 50 * b) t))) ∙ part-at 15 20 (11 + 50 * b) t (omega arith)
+xi-part : (t : List ℤ) (b : ℕ) → take sideSize (drop pitchSize (drop pitchSize (take blockSize (drop (limitsSize + blockSize * b) t)))) ≡ take sideSize (drop (limitsSize + blockSize * b + xiStart) t)
+xi-part t b = ap (take sideSize) (drop-drop pitchSize pitchSize (take blockSize (drop (limitsSize + blockSize * b) t))) ∙ part-at sideSize xiStart (limitsSize + blockSize * b) t (omega arith)
 
-zeta-part : (t : List ℤ) (b : ℕ) → take 15 (drop 15 (drop 10 (drop 10 (take 50 (drop (11 + 50 * b) t))))) ≡ take 15 (drop (11 + 50 * b + 35) t)
+zeta-part : (t : List ℤ) (b : ℕ) → take sideSize (drop sideSize (drop pitchSize (drop pitchSize (take blockSize (drop (limitsSize + blockSize * b) t))))) ≡ take sideSize (drop (limitsSize + blockSize * b + zetaStart) t)
 zeta-part t b =
-    ap (λ l. take 15 (drop 15 l)) (drop-drop 10 10 (take 50 (drop (11 + 50 * b) t))) ∙ ap (take 15) (drop-drop 15 20 (take 50 (drop (11 + 50 * b) t)))
-    ∙ part-at 15 35 (11 + 50 * b) t (omega arith)
+    ap (λ l. take sideSize (drop sideSize l)) (drop-drop pitchSize pitchSize (take blockSize (drop (limitsSize + blockSize * b) t))) ∙ ap (take sideSize) (drop-drop sideSize xiStart (take blockSize (drop (limitsSize + blockSize * b) t)))
+    ∙ part-at sideSize zetaStart (limitsSize + blockSize * b) t (omega arith)
 
-pub coefficient-parts : (t : List ℤ) (b n : ℕ) → n < 2 → let s = 11 + 50 * b in coefficient cumulus t b (piece n)
-    ≡ grouped 0 3 (take 10 (drop (s + 10 * n) t)) ∷ grouped 1 2 (take 15 (drop (s + 20) t)) ∷ grouped 1 4 (take 15 (drop (s + 35) t)) ∷ []
+pub coefficient-parts : (t : List ℤ) (b n : ℕ) → n < 2 → let s = limitsSize + blockSize * b in coefficient cumulus t b (piece n)
+    ≡ grouped 0 3 (take pitchSize (drop (s + pitchSize * n) t)) ∷ grouped 1 2 (take sideSize (drop (s + xiStart) t)) ∷ grouped 1 4 (take sideSize (drop (s + zetaStart) t)) ∷ []
 unfolding coefficient chosen groups kindsLength below
 coefficient-parts t b zero h = λ i.
-    grouped 0 3 (part-at 10 0 (11 + 50 * b) t (omega arith) i) ∷ grouped 1 2 (xi-part t b i) ∷ grouped 1 4 (zeta-part t b i) ∷ []
+    grouped 0 3 (part-at pitchSize 0 (limitsSize + blockSize * b) t (omega arith) i) ∷ grouped 1 2 (xi-part t b i) ∷ grouped 1 4 (zeta-part t b i) ∷ []
 coefficient-parts t b (suc zero) h = λ i.
-    grouped 0 3 (part-at 10 10 (11 + 50 * b) t (omega arith) i) ∷ grouped 1 2 (xi-part t b i) ∷ grouped 1 4 (zeta-part t b i) ∷ []
+    grouped 0 3 (part-at pitchSize pitchSize (limitsSize + blockSize * b) t (omega arith) i) ∷ grouped 1 2 (xi-part t b i) ∷ grouped 1 4 (zeta-part t b i) ∷ []
 coefficient-parts t b (suc (suc n)) h = absurd (omega arith)

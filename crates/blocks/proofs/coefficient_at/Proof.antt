@@ -20,6 +20,7 @@ use Rattle.polynomials.specs.Limits.{cap}
 use Rattle.polynomials.specs.Ready.{Readable}
 use Rattle.polynomials.proofs.Bounds.{value-within}
 use Rattle.layout.specs.Shape.{kindsLength, cumulus}
+use Rattle.layout.specs.Numbers.{limitsSize, pitchSize, sideSize, xiStart, zetaStart, blockSize}
 use Rattle.layout.specs.Blocks.{piece, coefficient}
 use Rattle.layout.specs.Reading.{readings}
 use Rattle.blocks.specs.Ready.{grouped, Valued}
@@ -36,13 +37,13 @@ module _ (t : List ℤ) (b n : ℕ) (state : List ℤ) (ready : Valued t b n sta
   r i = max 1 (natAbs (x i))
 
   abbrev own : List ℤ
-  own = take 10 (drop (11 + 50 * b + 10 * n) t)
+  own = take pitchSize (drop (limitsSize + blockSize * b + pitchSize * n) t)
 
   abbrev xi : List ℤ
-  xi = take 15 (drop (11 + 50 * b + 20) t)
+  xi = take sideSize (drop (limitsSize + blockSize * b + xiStart) t)
 
   abbrev zeta : List ℤ
-  zeta = take 15 (drop (11 + 50 * b + 35) t)
+  zeta = take sideSize (drop (limitsSize + blockSize * b + zetaStart) t)
 
   abbrev three : List Group
   three = grouped 0 3 own ∷ grouped 1 2 xi ∷ grouped 1 4 zeta ∷ []
@@ -52,7 +53,7 @@ module _ (t : List ℤ) (b n : ℕ) (state : List ℤ) (ready : Valued t b n sta
   weights = subst (λ gs. totalWeight gs r ≤ cap) (coefficient-parts t b n (ready .half)) (ready .light)
 
   -- the place of every group is inside the table
-  long : 11 + 50 * b + 50 ≤ length t
+  long : limitsSize + blockSize * b + blockSize ≤ length t
   unfolding kindsLength below
   long = omega (arith, ready .whole, ready .block)
 
@@ -66,18 +67,18 @@ module _ (t : List ℤ) (b n : ℕ) (state : List ℤ) (ready : Valued t b n sta
   out-bits : (i j : ℕ) → i < 5 → j < 5 → (l : List ℤ) (z : ℤ) → SFits w64 z → z ≡ value l (toZ w64 (ofZ w64 (x i))) (toZ w64 (ofZ w64 (x j))) → toZ w64 (ofZ w64 z) ≡ value l (x i) (x j)
   out-bits i j a b l z f e = toZ-ofZ f ∙ e ∙ ap₂ (value l) (bits i a) (bits j b)
 
-  readable : (i j a m : ℕ) → i < 5 → j < 5 → m ≤ 15 → weight (take m (drop a t)) (r i) (r j) ≤ cap → Readable (take m (drop a t)) (x i) (x j)
+  readable : (i j a m : ℕ) → i < 5 → j < 5 → m ≤ sideSize → weight (take m (drop a t)) (r i) (r j) ≤ cap → Readable (take m (drop a t)) (x i) (x j)
   unfolding below
   readable i j a m p q h l = record { few = omega (arith, length-take m (drop a t)); near-x = ready .near i p; near-y = ready .near j q; light = l }
 
   read-own : Readable own (x 0) (x 3)
-  read-own = readable 0 3 (11 + 50 * b + 10 * n) 10 (omega arith) (omega arith) (omega arith) (omega (arith, weights))
+  read-own = readable 0 3 (limitsSize + blockSize * b + pitchSize * n) pitchSize (omega arith) (omega arith) (omega arith) (omega (arith, weights))
 
   read-xi : Readable xi (x 1) (x 2)
-  read-xi = readable 1 2 (11 + 50 * b + 20) 15 (omega arith) (omega arith) (omega arith) (omega (arith, weights))
+  read-xi = readable 1 2 (limitsSize + blockSize * b + xiStart) sideSize (omega arith) (omega arith) (omega arith) (omega (arith, weights))
 
   read-zeta : Readable zeta (x 1) (x 4)
-  read-zeta = readable 1 4 (11 + 50 * b + 35) 15 (omega arith) (omega arith) (omega arith) (omega (arith, weights))
+  read-zeta = readable 1 4 (limitsSize + blockSize * b + zetaStart) sideSize (omega arith) (omega arith) (omega arith) (omega (arith, weights))
 
   bound : (l : List ℤ) (i j : ℕ) → natAbs (value l (x i) (x j)) ≤ weight l (r i) (r j)
   bound l i j = value-within l (x i) (x j) (r i) (r j) (N.le-max-right 1 (natAbs (x i))) (N.le-max-right 1 (natAbs (x j)))
