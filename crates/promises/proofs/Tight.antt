@@ -103,6 +103,9 @@ powers-previous-tight κs a o p = tight o p (search (same, same-powers))
 pub powers-of-tight : Tight polynomials.powers_of.ended polynomials.powers_of.Reads.Post
 powers-of-tight κs a o p = tight o p (search same)
 
+pub multiplied-out-tight : Tight polynomials.multiplied_out.ended polynomials.multiplied_out.Reads.Post
+multiplied-out-tight κs a o p = tight o p (search same)
+
 pub value-at-tight : Tight polynomials.value_at.ended polynomials.value_at.Reads.Post
 value-at-tight κs a o p = tight o p (search same)
 
