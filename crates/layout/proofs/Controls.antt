@@ -1,32 +1,32 @@
--- Facts that would fail if a definition said something else: the places of a Cumulus One table, and its reaches, refusals, readings and moves on
--- small tables that are worked by hand.
+-- Facts that would fail if a definition said something else: the places and the groups of a Cumulus One table, and the limits, reaches, weights,
+-- refusals, readings and moves of small tables that are worked by hand.
 use mathlib.Core.Path.{_≡_, refl}
-use mathlib.Core.Bool.{true}
+use mathlib.Core.Bool.{Bool, true, false}
 use mathlib.Core.List.{List, [], _∷_, _++_, map}
-use Prim.Native.Nat.{ℕ, _+_}
+use Prim.Native.Nat.{ℕ, _-_}
 use lib.IntN.{ℤ, pos, negℤ, pow, one}
-use lib.ListN.{replicate}
+use lib.ListN.{replicate, getD}
 use Rattle.polynomials.specs.Sum.{sum, listed}
 use Rattle.polynomials.specs.Order.{powers, below, size}
 use Rattle.polynomials.specs.Binomial.{choose}
 use Rattle.polynomials.specs.Group.{number, term, evaluated, given, movedNumber, replaced}
 use Rattle.polynomials.specs.Groups.{total, totalWeight, movedGroup, longer}
-use Rattle.layout.specs.Shape.{Kind, Shape, limitsLength, lowestPlace, highestPlace, kindsLength, blockLength, blockStart, tableLength, cumulus}
-use Rattle.layout.specs.Numbers.{limitsSize, blockSize, pitchSize, sideSize, xiStart, zetaStart}
+use Rattle.layout.specs.Shape.{Shape, limitsLength, lowestPlace, highestPlace, kindsLength, blockLength, blockStart, tableLength, cumulus}
+use Rattle.layout.specs.Numbers.{limitsSize, blockSize, tableSize, pitchSize, sideSize, xiStart, zetaStart}
 use Rattle.layout.specs.Limits.{every, allInRange, good}
 use Rattle.layout.specs.Blocks.{low, high, groups, laidOut, chosen, coefficient}
-use Rattle.layout.specs.Sound.{reach, withinCap, sound}
+use Rattle.layout.specs.Sound.{reach, withinCap, light, sound}
 use Rattle.layout.specs.Refusals.{first}
-use Rattle.layout.specs.Reading.{readings, values, readNumber, readOutput}
+use Rattle.layout.specs.Reading.{readings, inside, values, readNumber, readOutput}
 use Rattle.layout.specs.Moving.{owner, joined, movedLimit, movedLimits, movedBlock, movedTable, moveNumber, moveOutput}
 
--- ════ the places
-lengths : limitsLength cumulus ∷ tableLength cumulus ∷ [] ≡ 11 ∷ 311 ∷ []
+-- ════ the places of a Cumulus One table
+lengths : limitsLength cumulus ∷ blockLength cumulus ∷ tableLength cumulus ∷ [] ≡ 11 ∷ 50 ∷ 311 ∷ []
 unfolding kindsLength below
 lengths = refl
 
-named : limitsSize ∷ blockSize ∷ pitchSize ∷ sideSize ∷ xiStart ∷ (zetaStart + sideSize) ∷ [] ≡ limitsLength cumulus ∷ blockLength cumulus ∷ size 3 ∷ size 4 ∷ (size 3 + size 3) ∷ blockLength cumulus ∷ []
-unfolding kindsLength below
+named : limitsSize ∷ pitchSize ∷ sideSize ∷ xiStart ∷ zetaStart ∷ blockSize ∷ tableSize ∷ [] ≡ 11 ∷ size 3 ∷ size 4 ∷ 20 ∷ 35 ∷ 50 ∷ 311 ∷ []
+unfolding below
 named = refl
 
 starts : map (blockStart cumulus) (0 ∷ 1 ∷ 2 ∷ 3 ∷ 4 ∷ 5 ∷ []) ≡ 11 ∷ 61 ∷ 111 ∷ 161 ∷ 211 ∷ 261 ∷ []
@@ -41,64 +41,166 @@ highests : listed 5 highestPlace ≡ 2 ∷ 4 ∷ 6 ∷ 8 ∷ 10 ∷ []
 unfolding listed
 highests = refl
 
+-- alpha owns its cut too
 owners : listed 11 owner ≡ 0 ∷ 0 ∷ 0 ∷ 1 ∷ 1 ∷ 2 ∷ 2 ∷ 3 ∷ 3 ∷ 4 ∷ 4 ∷ []
 unfolding listed
 owners = refl
 
--- ════ a shape of another kind: two variables, two blocks of one group of degree 1, which counts in both pieces
-abbrev line : Shape
-line = record { variables = 2; blocks = 2; kinds = record { u = 0; v = 1; degree = 1; low = true; high = true } ∷ [] }
+-- X is alpha + 10 eta up to the cut and 100 alpha + 1000 eta above it, and in both 10^4 beta + 10^5 xi + 10^6 beta + 10^7 zeta
+abbrev oneOfEach : List ℤ
+oneOfEach =
+    replicate 11 (pos 0)
+    ++ (pos 0 ∷ pos 1 ∷ pos 10 ∷ replicate 7 (pos 0))
+    ++ (pos 0 ∷ pos 100 ∷ pos 1_000 ∷ replicate 7 (pos 0))
+    ++ (pos 0 ∷ pos 10_000 ∷ pos 100_000 ∷ replicate 12 (pos 0))
+    ++ (pos 0 ∷ pos 1_000_000 ∷ pos 10_000_000 ∷ replicate 12 (pos 0))
 
--- limits -10, 3 and 20, and -5 and 0; then 100 + 7 u - 2 v and 1 - u
-abbrev lines : List ℤ
-lines = (negℤ (pos 10) ∷ pos 3 ∷ pos 20 ∷ negℤ (pos 5) ∷ pos 0 ∷ []) ++ (pos 100 ∷ pos 7 ∷ negℤ (pos 2) ∷ []) ++ (pos 1 ∷ negℤ (pos 1) ∷ pos 0 ∷ [])
+-- alpha 2, beta 3, xi 4, eta 5 and zeta 6: 2 + 50, or 200 + 5000, beside 30000 + 400000 + 3000000 + 60000000
+variables : map (λ p. total (coefficient cumulus oneOfEach 0 p) (readings (pos 2 ∷ pos 3 ∷ pos 4 ∷ pos 5 ∷ pos 6 ∷ []))) (low ∷ high ∷ []) ≡ pos 63_430_052 ∷ pos 63_435_200 ∷ []
+unfolding sum powers below term evaluated total kindsLength groups chosen coefficient pow one
+variables = refl
 
-reaches : (reach lines low 0 ∷ reach lines high 0 ∷ reach lines low 1 ∷ reach lines high 1 ∷ []) ≡ 10 ∷ 20 ∷ 5 ∷ 5 ∷ []
-reaches = refl
+-- ════ limits of two variables
+abbrev small : Shape
+small =
+    record {
+      variables = 2;
+      blocks = 2;
+      kinds =
+          record { u = 0; v = 1; degree = 1; low = true; high = false }
+          ∷ record { u = 0; v = 1; degree = 1; low = false; high = true }
+          ∷ record { u = 1; v = 0; degree = 0; low = true; high = true }
+          ∷ [];
+    }
 
-lines-sound : sound line lines ≡ true
-unfolding sum listed powers below term evaluated totalWeight kindsLength every allInRange good groups chosen coefficient withinCap pow one
-lines-sound = refl
+-- lowest, cut and highest of variable 0, lowest and highest of variable 1
+abbrev limits : ℤ → ℤ → ℤ → ℤ → ℤ → List ℤ
+limits a c b d e = a ∷ c ∷ b ∷ d ∷ e ∷ []
 
--- 100 + 28 + 6 and 1 - 4
-lines-read : values line lines (readings (pos 4 ∷ negℤ (pos 3) ∷ [])) ≡ pos 134 ∷ negℤ (pos 3) ∷ []
+-- at both ends of the range, the cut at the lowest, and lowest and highest of variable 1 equal: good;
+-- a cut at the highest, or below the lowest; a lowest above its highest; then one limit after the other one past the range: not good
+limits-good : map (good small) (limits (negℤ (pos 2000)) (negℤ (pos 2000)) (negℤ (pos 1999)) (pos 2000) (pos 2000)
+    ∷ limits (negℤ (pos 10)) (pos 20) (pos 20) (negℤ (pos 5)) (pos 0)
+    ∷ limits (negℤ (pos 10)) (negℤ (pos 11)) (pos 20) (negℤ (pos 5)) (pos 0)
+    ∷ limits (negℤ (pos 10)) (pos 3) (pos 20) (pos 1) (pos 0)
+    ∷ limits (negℤ (pos 2001)) (pos 3) (pos 20) (negℤ (pos 5)) (pos 0)
+    ∷ limits (negℤ (pos 10)) (pos 3) (pos 2001) (negℤ (pos 5)) (pos 0)
+    ∷ limits (negℤ (pos 10)) (pos 3) (pos 20) (negℤ (pos 2001)) (pos 0)
+    ∷ limits (negℤ (pos 10)) (pos 3) (pos 20) (negℤ (pos 5)) (pos 2001)
+    ∷ []) ≡ true ∷ replicate 7 false
+unfolding every allInRange good
+limits-good = refl
+
+-- of variable 0 below and above the cut, then of variable 1
+abbrev reaches : List ℤ → List ℕ
+reaches t = reach t low 0 ∷ reach t high 0 ∷ reach t low 1 ∷ reach t high 1 ∷ []
+
+-- -10 to -8 and -7 to 5, -5 to 0; 1 to 6 and 7 to 9, -1 to 4; 0 to 0 and 1 to 1, 0 to 0
+reaches-worked : map reaches (limits (negℤ (pos 10)) (negℤ (pos 8)) (pos 5) (negℤ (pos 5)) (pos 0)
+    ∷ limits (pos 1) (pos 6) (pos 9) (negℤ (pos 1)) (pos 4)
+    ∷ limits (pos 0) (pos 0) (pos 1) (pos 0) (pos 0)
+    ∷ []) ≡ (10 ∷ 7 ∷ 5 ∷ 5 ∷ []) ∷ (6 ∷ 9 ∷ 4 ∷ 4 ∷ []) ∷ (1 ∷ 1 ∷ 1 ∷ 1 ∷ []) ∷ []
+reaches-worked = refl
+
+-- ════ reading and moving
+-- limits -10, 3 and 20, and -5 and 0. Up to the cut 100 + 7 u - 2 v and 1 - u, above it 40 - u + 6 v and 2 + 3 u; 1000 and -500 are added in both
+abbrev table : List ℤ
+table =
+    limits (negℤ (pos 10)) (pos 3) (pos 20) (negℤ (pos 5)) (pos 0)
+    ++ ((pos 100 ∷ pos 7 ∷ negℤ (pos 2) ∷ []) ++ (pos 40 ∷ negℤ (pos 1) ∷ pos 6 ∷ []) ++ pos 1000 ∷ [])
+    ++ ((pos 1 ∷ negℤ (pos 1) ∷ pos 0 ∷ []) ++ (pos 2 ∷ pos 3 ∷ pos 0 ∷ []) ++ negℤ (pos 500) ∷ [])
+
+-- at the cut 100 + 21 + 6 + 1000 and 1 - 3 - 500; one past it 40 - 4 - 18 + 1000 and 2 + 12 - 500
+table-read : map (λ u. values small table (readings (u ∷ negℤ (pos 3) ∷ []))) (pos 3 ∷ pos 4 ∷ [])
+    ≡ (pos 1127 ∷ negℤ (pos 502) ∷ []) ∷ (pos 1018 ∷ negℤ (pos 486) ∷ []) ∷ []
 unfolding sum listed powers below term evaluated total kindsLength groups chosen coefficient values pow one
-lines-read = refl
+table-read = refl
 
--- by 4 in u: limits -14, -1 and 16, then 128 + 7 u - 2 v and -3 - u
-lines-moved : movedTable line 0 (pos 4) lines
-    ≡ (negℤ (pos 14) ∷ negℤ (pos 1) ∷ pos 16 ∷ negℤ (pos 5) ∷ pos 0 ∷ []) ++ (pos 128 ∷ pos 7 ∷ negℤ (pos 2) ∷ []) ++ (negℤ (pos 3) ∷ negℤ (pos 1) ∷ pos 0 ∷ [])
+-- by 4 in u: limits -14, -1 and 16; 128 + 7 u - 2 v and -3 - u, 36 - u + 6 v and 14 + 3 u
+moved-in-u : movedTable small 0 (pos 4) table
+    ≡ limits (negℤ (pos 14)) (negℤ (pos 1)) (pos 16) (negℤ (pos 5)) (pos 0)
+    ++ ((pos 128 ∷ pos 7 ∷ negℤ (pos 2) ∷ []) ++ (pos 36 ∷ negℤ (pos 1) ∷ pos 6 ∷ []) ++ pos 1000 ∷ [])
+    ++ ((negℤ (pos 3) ∷ negℤ (pos 1) ∷ pos 0 ∷ []) ++ (pos 14 ∷ pos 3 ∷ pos 0 ∷ []) ++ negℤ (pos 500) ∷ [])
 unfolding sum listed powers below choose number term evaluated given movedNumber replaced movedGroup kindsLength groups laidOut movedLimit movedLimits movedBlock joined movedTable pow one
-lines-moved = refl
+moved-in-u = refl
 
--- ════ the order of the refusals
--- nothing right; the table's length right; then the output's; then the limits
-abbrev nothing : List ℤ
-nothing = []
+-- by 2 in v: limits -7 and -2; 96 + 7 u - 2 v and 52 - u + 6 v
+moved-in-v : movedTable small 1 (pos 2) table
+    ≡ limits (negℤ (pos 10)) (pos 3) (pos 20) (negℤ (pos 7)) (negℤ (pos 2))
+    ++ ((pos 96 ∷ pos 7 ∷ negℤ (pos 2) ∷ []) ++ (pos 52 ∷ negℤ (pos 1) ∷ pos 6 ∷ []) ++ pos 1000 ∷ [])
+    ++ ((pos 1 ∷ negℤ (pos 1) ∷ pos 0 ∷ []) ++ (pos 2 ∷ pos 3 ∷ pos 0 ∷ []) ++ negℤ (pos 500) ∷ [])
+unfolding sum listed powers below choose number term evaluated given movedNumber replaced movedGroup kindsLength groups laidOut movedLimit movedLimits movedBlock joined movedTable pow one
+moved-in-v = refl
 
-read-order : readNumber line nothing (readings []) nothing
-    ∷ readNumber line (replicate 11 (pos 0)) (readings []) nothing
-    ∷ readNumber line (replicate 11 (pos 0)) (readings []) (replicate 2 (pos 0))
-    ∷ readNumber line lines (readings (pos 21 ∷ pos 1 ∷ [])) (replicate 2 (pos 0))
-    ∷ readNumber line lines (readings (pos 20 ∷ pos 1 ∷ [])) (replicate 2 (pos 0))
-    ∷ readNumber line lines (readings (pos 20 ∷ pos 0 ∷ [])) (replicate 2 (pos 0))
+-- ════ weights against 9 × 10¹⁸
+-- short of the cap by a, b, c and d are the numbers without a variable in the two pieces of the first block and of the second; u - v is added in all four
+abbrev heavy : List ℤ → ℕ → ℕ → ℕ → ℕ → List ℤ
+heavy l a b c d = l ++ (piece a ++ piece b ++ pos 0 ∷ []) ++ (piece c ++ piece d ++ pos 0 ∷ [])
+  where
+    piece : ℕ → List ℤ
+    piece n = pos (9_000_000_000_000_000_000 - n) ∷ pos 1 ∷ negℤ (pos 1) ∷ []
+
+-- u reaches 10 in the low piece and 7 in the high one, v 5
+abbrev wide : List ℤ
+wide = limits (negℤ (pos 10)) (negℤ (pos 8)) (pos 5) (negℤ (pos 5)) (pos 0)
+
+-- u and v add 15 in the low piece and 12 in the high one: at the cap in all four, then one past it in one of them
+weights : map (light small) (heavy wide 15 12 15 12 ∷ heavy wide 14 12 15 12 ∷ heavy wide 15 11 15 12 ∷ heavy wide 15 12 14 12 ∷ heavy wide 15 12 15 11 ∷ [])
+    ≡ true ∷ replicate 4 false
+unfolding sum powers below term evaluated totalWeight kindsLength every groups chosen coefficient withinCap
+weights = refl
+
+-- limits that are not good
+abbrev turned : List ℤ
+turned = limits (negℤ (pos 10)) (negℤ (pos 8)) (pos 5) (pos 0) (negℤ (pos 5))
+
+soundness : map (sound small) (heavy wide 15 12 15 12 ∷ heavy wide 0 0 0 0 ∷ heavy turned 15 12 15 12 ∷ []) ≡ true ∷ false ∷ false ∷ []
+unfolding sum powers below term evaluated totalWeight kindsLength every allInRange good groups chosen coefficient withinCap
+soundness = refl
+
+-- ════ the numbers given back, and their order
+-- readings at the limits are inside, one past them outside
+ends : map (λ u. inside wide (readings (u ∷ [])) 0) (negℤ (pos 11) ∷ negℤ (pos 10) ∷ pos 5 ∷ pos 6 ∷ []) ≡ false ∷ true ∷ true ∷ false ∷ []
+ends = refl
+
+-- in each line all is wrong that the lines before are refused for no more
+read-order : readNumber small [] (readings (pos 6 ∷ pos 1 ∷ [])) []
+    ∷ readNumber small (heavy turned 0 0 0 0) (readings (pos 6 ∷ pos 1 ∷ [])) []
+    ∷ readNumber small (heavy turned 0 0 0 0) (readings (pos 6 ∷ pos 1 ∷ [])) (replicate 2 (pos 0))
+    ∷ readNumber small (heavy wide 0 0 0 0) (readings (pos 6 ∷ pos 1 ∷ [])) (replicate 2 (pos 0))
+    ∷ readNumber small (heavy wide 15 12 15 12) (readings (pos 6 ∷ pos 1 ∷ [])) (replicate 2 (pos 0))
+    ∷ readNumber small (heavy wide 15 12 15 12) (readings (pos 5 ∷ pos 1 ∷ [])) (replicate 2 (pos 0))
+    ∷ readNumber small (heavy wide 15 12 15 12) (readings (pos 5 ∷ pos 0 ∷ [])) (replicate 2 (pos 0))
     ∷ []
-    ≡ 1 ∷ 2 ∷ 3 ∷ 11 ∷ 12 ∷ 0 ∷ []
-unfolding sum listed powers below term evaluated totalWeight kindsLength every allInRange good groups chosen coefficient withinCap first readNumber pow one
+    ≡ 1 ∷ 2 ∷ 3 ∷ 4 ∷ 11 ∷ 12 ∷ 0 ∷ []
+unfolding sum listed powers below term evaluated totalWeight kindsLength every allInRange good groups chosen coefficient withinCap first readNumber
 read-order = refl
 
-move-order : moveNumber line nothing 2 (pos 0) nothing
-    ∷ moveNumber line (replicate 11 (pos 0)) 2 (pos 0) nothing
-    ∷ moveNumber line (replicate 11 (pos 0)) 2 (pos 0) (replicate 11 (pos 0))
-    ∷ moveNumber line (replicate 11 (pos 0)) 1 (pos 0) (replicate 11 (pos 0))
-    ∷ moveNumber line lines 0 (negℤ (pos 1981)) (replicate 11 (pos 0))
-    ∷ moveNumber line lines 0 (negℤ (pos 1980)) (replicate 11 (pos 0))
+-- by 1991 the lowest of variable 0 comes to -2001, and by 1990 to -2000; either is too heavy
+move-order : moveNumber small [] 2 (pos 1991) []
+    ∷ moveNumber small (heavy turned 0 0 0 0) 2 (pos 1991) []
+    ∷ moveNumber small (heavy turned 0 0 0 0) 2 (pos 1991) (replicate 19 (pos 0))
+    ∷ moveNumber small (heavy turned 0 0 0 0) 0 (pos 1991) (replicate 19 (pos 0))
+    ∷ moveNumber small (heavy wide 0 0 0 0) 0 (pos 1991) (replicate 19 (pos 0))
+    ∷ moveNumber small (heavy wide 15 12 15 12) 0 (pos 1991) (replicate 19 (pos 0))
+    ∷ moveNumber small (heavy wide 15 12 15 12) 0 (pos 1990) (replicate 19 (pos 0))
+    ∷ moveNumber small (heavy wide 15 12 15 12) 0 (pos 0) (replicate 19 (pos 0))
     ∷ []
-    ≡ 1 ∷ 2 ∷ 5 ∷ 3 ∷ 6 ∷ 0 ∷ []
-unfolding sum listed powers below choose number term evaluated totalWeight movedGroup longer kindsLength every allInRange good groups chosen coefficient withinCap first movedLimit movedLimits moveNumber pow one
+    ≡ 1 ∷ 2 ∷ 5 ∷ 3 ∷ 4 ∷ 6 ∷ 7 ∷ 0 ∷ []
+unfolding sum listed powers below term evaluated totalWeight longer kindsLength every allInRange good groups chosen coefficient withinCap first movedLimit movedLimits moveNumber
 move-order = refl
 
--- a refusal keeps what the output had
-read-refused : readOutput line lines (readings (pos 21 ∷ [])) (pos 8 ∷ pos 9 ∷ []) ≡ pos 8 ∷ pos 9 ∷ []
-unfolding sum listed powers below term evaluated totalWeight kindsLength every allInRange good groups chosen coefficient withinCap first readNumber readOutput pow one
-read-refused = refl
+-- by -2 the limits of u come to -8, -6 and 7, so that it reaches 8 and 7, and with the size of the shift 10 and 9; v reaches 5 as before:
+-- at the cap where 15 and 14 are short of it. The moved numbers would be lighter by 2, and at the old reach of 10 the low piece would pass the cap
+move-weights : map (λ t. moveNumber small t 0 (negℤ (pos 2)) (replicate 19 (pos 0))) (heavy wide 15 14 15 14 ∷ heavy wide 15 13 15 14 ∷ heavy wide 15 14 15 13 ∷ []) ≡ 0 ∷ 7 ∷ 7 ∷ []
+unfolding sum listed powers below term evaluated totalWeight longer kindsLength every allInRange good groups chosen coefficient withinCap first movedLimit movedLimits moveNumber
+move-weights = refl
+
+-- an answer takes the place of what the output had, and a refusal keeps it
+read-output : map (λ u. readOutput small table (readings (u ∷ negℤ (pos 3) ∷ [])) (pos 8 ∷ pos 9 ∷ [])) (pos 20 ∷ pos 21 ∷ []) ≡ (pos 1002 ∷ negℤ (pos 438) ∷ []) ∷ (pos 8 ∷ pos 9 ∷ []) ∷ []
+unfolding sum listed powers below term evaluated total totalWeight kindsLength every allInRange good groups chosen coefficient withinCap first values readNumber readOutput pow one
+read-output = refl
+
+move-output : map (λ i. getD (moveOutput small table i (pos 4) (replicate 19 (pos 8))) 0 (pos 0)) (0 ∷ 2 ∷ []) ≡ negℤ (pos 14) ∷ pos 8 ∷ []
+unfolding sum listed powers below choose number term evaluated given movedNumber replaced totalWeight movedGroup longer kindsLength every allInRange good groups laidOut chosen coefficient withinCap first movedLimit movedLimits movedBlock joined movedTable moveNumber moveOutput pow one
+move-output = refl
