@@ -5,7 +5,7 @@ use mathlib.Core.Bool.{Bool, true, false}
 use mathlib.Core.List.{List, [], _∷_, _++_, map}
 use Prim.Native.Nat.{ℕ, _-_}
 use lib.IntN.{ℤ, pos, negℤ, pow, one}
-use lib.ListN.{replicate, getD}
+use lib.ListN.{length, replicate, getD}
 use Rattle.polynomials.specs.Sum.{sum, listed}
 use Rattle.polynomials.specs.Order.{powers, below, size}
 use Rattle.polynomials.specs.Binomial.{choose}
@@ -14,7 +14,7 @@ use Rattle.polynomials.specs.Groups.{total, totalWeight, movedGroup, longer}
 use Rattle.layout.specs.Shape.{Shape, limitsLength, lowestPlace, highestPlace, kindsLength, blockLength, blockStart, tableLength, cumulus}
 use Rattle.layout.specs.Numbers.{limitsSize, blockSize, tableSize, pitchSize, sideSize, xiStart, zetaStart}
 use Rattle.layout.specs.Limits.{every, allInRange, good}
-use Rattle.layout.specs.Blocks.{low, high, groups, laidOut, chosen, coefficient}
+use Rattle.layout.specs.Blocks.{low, high, block, groups, laidOut, chosen, coefficient}
 use Rattle.layout.specs.Sound.{reach, withinCap, light, sound}
 use Rattle.layout.specs.Refusals.{first}
 use Rattle.layout.specs.Reading.{readings, inside, values, readNumber, readOutput}
@@ -110,6 +110,11 @@ table =
     ++ ((pos 100 ∷ pos 7 ∷ negℤ (pos 2) ∷ []) ++ (pos 40 ∷ negℤ (pos 1) ∷ pos 6 ∷ []) ++ pos 1000 ∷ [])
     ++ ((pos 1 ∷ negℤ (pos 1) ∷ pos 0 ∷ []) ++ (pos 2 ∷ pos 3 ∷ pos 0 ∷ []) ++ negℤ (pos 500) ∷ [])
 
+blocks : map (block small table) (0 ∷ 1 ∷ [])
+    ≡ (pos 100 ∷ pos 7 ∷ negℤ (pos 2) ∷ pos 40 ∷ negℤ (pos 1) ∷ pos 6 ∷ pos 1000 ∷ []) ∷ (pos 1 ∷ negℤ (pos 1) ∷ pos 0 ∷ pos 2 ∷ pos 3 ∷ pos 0 ∷ negℤ (pos 500) ∷ []) ∷ []
+unfolding kindsLength below
+blocks = refl
+
 -- at the cut 100 + 21 + 6 + 1000 and 1 - 3 - 500; one past it 40 - 4 - 18 + 1000 and 2 + 12 - 500
 table-read : map (λ u. values small table (readings (u ∷ negℤ (pos 3) ∷ []))) (pos 3 ∷ pos 4 ∷ [])
     ≡ (pos 1127 ∷ negℤ (pos 502) ∷ []) ∷ (pos 1018 ∷ negℤ (pos 486) ∷ []) ∷ []
@@ -133,19 +138,19 @@ unfolding sum listed powers below choose number term evaluated given movedNumber
 moved-in-v = refl
 
 -- ════ weights against 9 × 10¹⁸
--- short of the cap by a, b, c and d are the numbers without a variable in the two pieces of the first block and of the second; u - v is added in all four
+-- short of the cap by a, b, c and d are the numbers without a variable in the two pieces of the first block and of the second; u - 2 v is added in all four
 abbrev heavy : List ℤ → ℕ → ℕ → ℕ → ℕ → List ℤ
 heavy l a b c d = l ++ (piece a ++ piece b ++ pos 0 ∷ []) ++ (piece c ++ piece d ++ pos 0 ∷ [])
   where
     piece : ℕ → List ℤ
-    piece n = pos (9_000_000_000_000_000_000 - n) ∷ pos 1 ∷ negℤ (pos 1) ∷ []
+    piece n = pos (9_000_000_000_000_000_000 - n) ∷ pos 1 ∷ negℤ (pos 2) ∷ []
 
 -- u reaches 10 in the low piece and 7 in the high one, v 5
 abbrev wide : List ℤ
 wide = limits (negℤ (pos 10)) (negℤ (pos 8)) (pos 5) (negℤ (pos 5)) (pos 0)
 
--- u and v add 15 in the low piece and 12 in the high one: at the cap in all four, then one past it in one of them
-weights : map (light small) (heavy wide 15 12 15 12 ∷ heavy wide 14 12 15 12 ∷ heavy wide 15 11 15 12 ∷ heavy wide 15 12 14 12 ∷ heavy wide 15 12 15 11 ∷ [])
+-- 10 + 2 x 5 are added in the low piece and 7 + 2 x 5 in the high one: at the cap in all four, then one past it in one of them
+weights : map (light small) (heavy wide 20 17 20 17 ∷ heavy wide 19 17 20 17 ∷ heavy wide 20 16 20 17 ∷ heavy wide 20 17 19 17 ∷ heavy wide 20 17 20 16 ∷ [])
     ≡ true ∷ replicate 4 false
 unfolding sum powers below term evaluated totalWeight kindsLength every groups chosen coefficient withinCap
 weights = refl
@@ -154,7 +159,7 @@ weights = refl
 abbrev turned : List ℤ
 turned = limits (negℤ (pos 10)) (negℤ (pos 8)) (pos 5) (pos 0) (negℤ (pos 5))
 
-soundness : map (sound small) (heavy wide 15 12 15 12 ∷ heavy wide 0 0 0 0 ∷ heavy turned 15 12 15 12 ∷ []) ≡ true ∷ false ∷ false ∷ []
+soundness : map (sound small) (heavy wide 20 17 20 17 ∷ heavy wide 0 0 0 0 ∷ heavy turned 20 17 20 17 ∷ []) ≡ true ∷ false ∷ false ∷ []
 unfolding sum powers below term evaluated totalWeight kindsLength every allInRange good groups chosen coefficient withinCap
 soundness = refl
 
@@ -163,18 +168,35 @@ soundness = refl
 ends : map (λ u. inside wide (readings (u ∷ [])) 0) (negℤ (pos 11) ∷ negℤ (pos 10) ∷ pos 5 ∷ pos 6 ∷ []) ≡ false ∷ true ∷ true ∷ false ∷ []
 ends = refl
 
+-- a variable that has no reading reads 0
+no-reading : readings (pos 6 ∷ []) 1 ≡ pos 0
+no-reading = refl
+
 -- in each line all is wrong that the lines before are refused for no more
 read-order : readNumber small [] (readings (pos 6 ∷ pos 1 ∷ [])) []
     ∷ readNumber small (heavy turned 0 0 0 0) (readings (pos 6 ∷ pos 1 ∷ [])) []
     ∷ readNumber small (heavy turned 0 0 0 0) (readings (pos 6 ∷ pos 1 ∷ [])) (replicate 2 (pos 0))
     ∷ readNumber small (heavy wide 0 0 0 0) (readings (pos 6 ∷ pos 1 ∷ [])) (replicate 2 (pos 0))
-    ∷ readNumber small (heavy wide 15 12 15 12) (readings (pos 6 ∷ pos 1 ∷ [])) (replicate 2 (pos 0))
-    ∷ readNumber small (heavy wide 15 12 15 12) (readings (pos 5 ∷ pos 1 ∷ [])) (replicate 2 (pos 0))
-    ∷ readNumber small (heavy wide 15 12 15 12) (readings (pos 5 ∷ pos 0 ∷ [])) (replicate 2 (pos 0))
+    ∷ readNumber small (heavy wide 20 17 20 17) (readings (pos 6 ∷ pos 1 ∷ [])) (replicate 2 (pos 0))
+    ∷ readNumber small (heavy wide 20 17 20 17) (readings (pos 5 ∷ pos 1 ∷ [])) (replicate 2 (pos 0))
+    ∷ readNumber small (heavy wide 20 17 20 17) (readings (pos 5 ∷ pos 0 ∷ [])) (replicate 2 (pos 0))
     ∷ []
     ≡ 1 ∷ 2 ∷ 3 ∷ 4 ∷ 11 ∷ 12 ∷ 0 ∷ []
 unfolding sum listed powers below term evaluated totalWeight kindsLength every allInRange good groups chosen coefficient withinCap first readNumber
 read-order = refl
+
+-- the lengths that a Cumulus One table asks for: 311 and 6 for a read, 311 twice for a move, and variables up to 4. Zeros are no good limits
+asked : readNumber cumulus (replicate 310 (pos 0)) (readings []) (replicate 6 (pos 0))
+    ∷ readNumber cumulus (replicate 311 (pos 0)) (readings []) (replicate 5 (pos 0))
+    ∷ readNumber cumulus (replicate 311 (pos 0)) (readings []) (replicate 6 (pos 0))
+    ∷ moveNumber cumulus (replicate 311 (pos 0)) 4 (pos 0) (replicate 310 (pos 0))
+    ∷ moveNumber cumulus (replicate 311 (pos 0)) 5 (pos 0) (replicate 311 (pos 0))
+    ∷ moveNumber cumulus (replicate 311 (pos 0)) 4 (pos 0) (replicate 311 (pos 0))
+    ∷ length (values cumulus [] (readings []))
+    ∷ []
+    ≡ 1 ∷ 2 ∷ 3 ∷ 2 ∷ 5 ∷ 3 ∷ 6 ∷ []
+unfolding listed below kindsLength every allInRange good first values readNumber moveNumber
+asked = refl
 
 -- by 1991 the lowest of variable 0 comes to -2001, and by 1990 to -2000; either is too heavy
 move-order : moveNumber small [] 2 (pos 1991) []
@@ -182,19 +204,25 @@ move-order : moveNumber small [] 2 (pos 1991) []
     ∷ moveNumber small (heavy turned 0 0 0 0) 2 (pos 1991) (replicate 19 (pos 0))
     ∷ moveNumber small (heavy turned 0 0 0 0) 0 (pos 1991) (replicate 19 (pos 0))
     ∷ moveNumber small (heavy wide 0 0 0 0) 0 (pos 1991) (replicate 19 (pos 0))
-    ∷ moveNumber small (heavy wide 15 12 15 12) 0 (pos 1991) (replicate 19 (pos 0))
-    ∷ moveNumber small (heavy wide 15 12 15 12) 0 (pos 1990) (replicate 19 (pos 0))
-    ∷ moveNumber small (heavy wide 15 12 15 12) 0 (pos 0) (replicate 19 (pos 0))
+    ∷ moveNumber small (heavy wide 20 17 20 17) 0 (pos 1991) (replicate 19 (pos 0))
+    ∷ moveNumber small (heavy wide 20 17 20 17) 0 (pos 1990) (replicate 19 (pos 0))
+    ∷ moveNumber small (heavy wide 20 17 20 17) 0 (pos 0) (replicate 19 (pos 0))
     ∷ []
     ≡ 1 ∷ 2 ∷ 5 ∷ 3 ∷ 4 ∷ 6 ∷ 7 ∷ 0 ∷ []
 unfolding sum listed powers below term evaluated totalWeight longer kindsLength every allInRange good groups chosen coefficient withinCap first movedLimit movedLimits moveNumber
 move-order = refl
 
--- by -2 the limits of u come to -8, -6 and 7, so that it reaches 8 and 7, and with the size of the shift 10 and 9; v reaches 5 as before:
--- at the cap where 15 and 14 are short of it. The moved numbers would be lighter by 2, and at the old reach of 10 the low piece would pass the cap
-move-weights : map (λ t. moveNumber small t 0 (negℤ (pos 2)) (replicate 19 (pos 0))) (heavy wide 15 14 15 14 ∷ heavy wide 15 13 15 14 ∷ heavy wide 15 14 15 13 ∷ []) ≡ 0 ∷ 7 ∷ 7 ∷ []
+-- by -2 the limits of u come to -8, -6 and 7, so that it reaches 8 and 7, and with the size of the shift 10 and 9; v reaches 5 as before: at the cap
+-- where 20 and 19 are short of it. Moved, the numbers would be lighter by 2; at the old reach of 10 the low piece would pass the cap
+move-weights-u : map (λ t. moveNumber small t 0 (negℤ (pos 2)) (replicate 19 (pos 0))) (heavy wide 20 19 20 19 ∷ heavy wide 20 18 20 19 ∷ heavy wide 20 19 20 18 ∷ [])
+    ≡ 0 ∷ 7 ∷ 7 ∷ []
 unfolding sum listed powers below term evaluated totalWeight longer kindsLength every allInRange good groups chosen coefficient withinCap first movedLimit movedLimits moveNumber
-move-weights = refl
+move-weights-u = refl
+
+-- by 2 the limits of v come to -7 and -2, so that it reaches 7, and with the shift 9; u reaches 10 and 7 as before: 10 + 2 x 9 and 7 + 2 x 9
+move-weights-v : map (λ t. moveNumber small t 1 (pos 2) (replicate 19 (pos 0))) (heavy wide 28 25 28 25 ∷ heavy wide 27 25 28 25 ∷ heavy wide 28 25 28 24 ∷ []) ≡ 0 ∷ 7 ∷ 7 ∷ []
+unfolding sum listed powers below term evaluated totalWeight longer kindsLength every allInRange good groups chosen coefficient withinCap first movedLimit movedLimits moveNumber
+move-weights-v = refl
 
 -- an answer takes the place of what the output had, and a refusal keeps it
 read-output : map (λ u. readOutput small table (readings (u ∷ negℤ (pos 3) ∷ [])) (pos 8 ∷ pos 9 ∷ [])) (pos 20 ∷ pos 21 ∷ []) ≡ (pos 1002 ∷ negℤ (pos 438) ∷ []) ∷ (pos 8 ∷ pos 9 ∷ []) ∷ []
