@@ -1,27 +1,39 @@
--- A few states of floats, given by their bits, at the limits of the published table.
+-- Facts that would fail if a definition said something else: a few states of floats, given by their bits, at the limits of the published table.
 use mathlib.Core.Path.{_≡_, refl}
 use mathlib.Core.List.{List, [], _∷_, _++_, map}
 use Prim.Native.Nat.{ℕ}
-use lib.IntN.{ℤ, pos, negsuc}
+use lib.IntN.{ℤ, pos, negsuc, pow, one}
+use lib.ListN.{replicate}
 use lib.Ieee.{Float, binary64, ofBits}
-use Rattle.polynomials.specs.Sum.{listed}
-use Rattle.layout.specs.Shape.{cumulus}
+use Rattle.polynomials.specs.Sum.{sum, listed}
+use Rattle.polynomials.specs.Order.{powers, below}
+use Rattle.polynomials.specs.Group.{term, evaluated}
+use Rattle.polynomials.specs.Groups.{total, totalWeight}
+use Rattle.layout.specs.Shape.{kindsLength, cumulus}
+use Rattle.layout.specs.Limits.{every, allInRange, good}
+use Rattle.layout.specs.Blocks.{groups, chosen, coefficient}
+use Rattle.layout.specs.Sound.{withinCap}
 use Rattle.layout.specs.Refusals.{first}
 use Rattle.rounding.specs.Nearest.{rounded, nearestWhole}
 use Rattle.rounding.specs.Reading.{wholeOf, stepOf}
+use Rattle.rounding.specs.Answer.{floatOf}
 use Rattle.door.specs.Steps.{positiveZero}
-use Rattle.door.specs.Door.{floats, stepAt, notFinites, outsides, readingFor}
+use Rattle.door.specs.Door.{floats, doorNumber, doorReading, doorValue}
 
-limits : List ℤ
-limits = negsuc 149 ∷ pos 313 ∷ pos 1000 ∷ negsuc 499 ∷ pos 500 ∷ negsuc 199 ∷ pos 200 ∷ negsuc 399 ∷ pos 400 ∷ negsuc 499 ∷ pos 500 ∷ []
+-- the published limits; X is 7 up to the cut and 8 above it, and the other coefficients are 0
+table : List ℤ
+table =
+    (negsuc 149 ∷ pos 313 ∷ pos 1000 ∷ negsuc 499 ∷ pos 500 ∷ negsuc 199 ∷ pos 200 ∷ negsuc 399 ∷ pos 400 ∷ negsuc 499 ∷ pos 500 ∷ [])
+    ++ (pos 7 ∷ replicate 9 (pos 0))
+    ++ (pos 8 ∷ replicate 289 (pos 0))
 
 unfoldable number : List ℕ → ℕ
-unfolding limits ofBits rounded nearestWhole wholeOf stepOf listed first
-number l = let s = stepAt limits (floats (map (ofBits binary64) l)) in first (notFinites (cumulus .variables) s ++ outsides (cumulus .variables) s)
+unfolding table ofBits rounded nearestWhole wholeOf stepOf sum listed powers below term evaluated totalWeight kindsLength every allInRange good groups chosen coefficient withinCap first doorNumber
+number l = doorNumber cumulus table (floats (map (ofBits binary64) l))
 
 unfoldable back : List ℕ → Float
-unfolding limits ofBits rounded nearestWhole wholeOf stepOf
-back l = readingFor cumulus (stepAt limits (floats (map (ofBits binary64) l))) (number l)
+unfolding table ofBits rounded nearestWhole wholeOf stepOf number doorReading
+back l = doorReading cumulus table (floats (map (ofBits binary64) l))
 
 -- a NaN zeta with alpha 2000.0: the NaN comes first, and no reading is handed back
 nan-zeta : number (0x409f_4000_0000_0000 ∷ 0 ∷ 0 ∷ 0 ∷ 0x7ff8_0000_0000_0000 ∷ []) ≡ 25
@@ -49,3 +61,8 @@ beta-rounded = refl
 zeta-outside : number (0 ∷ 0 ∷ 0 ∷ 0 ∷ 0xc07f_4999_9999_999a ∷ []) ≡ 15
 unfolding number
 zeta-outside = refl
+
+-- alpha 313.4 is rounded to 313 and read in the low piece, 313.6 to 314 and read in the high one
+pieces : map (λ alpha. doorValue cumulus table (floats (map (ofBits binary64) (alpha ∷ 0 ∷ 0 ∷ 0 ∷ 0 ∷ []))) 0) (0x4073_9666_6666_6666 ∷ 0x4073_9999_9999_999a ∷ []) ≡ floatOf (pos 7) ∷ floatOf (pos 8) ∷ []
+unfolding table ofBits rounded nearestWhole wholeOf stepOf sum listed powers below term evaluated total totalWeight kindsLength every allInRange good groups chosen coefficient withinCap first doorNumber doorValue pow one
+pieces = refl
