@@ -56,13 +56,13 @@ oneOfEach =
     ++ (pos 0 ∷ pos 1_000_000 ∷ pos 10_000_000 ∷ replicate 12 (pos 0))
 
 -- alpha 2, beta 3, xi 4, eta 5 and zeta 6: 2 + 50, or 200 + 5000, beside 30000 + 400000 + 3000000 + 60000000
-variables : map (λ p. total (coefficient cumulus oneOfEach 0 p) (readings (pos 2 ∷ pos 3 ∷ pos 4 ∷ pos 5 ∷ pos 6 ∷ []))) (low ∷ high ∷ []) ≡ pos 63_430_052 ∷ pos 63_435_200 ∷ []
+groups-read : map (λ p. total (coefficient cumulus oneOfEach 0 p) (readings (pos 2 ∷ pos 3 ∷ pos 4 ∷ pos 5 ∷ pos 6 ∷ []))) (low ∷ high ∷ []) ≡ pos 63_430_052 ∷ pos 63_435_200 ∷ []
 unfolding sum powers below term evaluated total kindsLength groups chosen coefficient pow one
-variables = refl
+groups-read = refl
 
--- ════ limits of two variables
-abbrev small : Shape
-small =
+-- ════ a small shape: two variables u and v, and two blocks, each with a low and a high group of degree 1 and a number that counts in both pieces
+abbrev smallShape : Shape
+smallShape =
     record {
       variables = 2;
       blocks = 2;
@@ -73,32 +73,32 @@ small =
           ∷ [];
     }
 
--- lowest, cut and highest of variable 0, lowest and highest of variable 1
-abbrev limits : ℤ → ℤ → ℤ → ℤ → ℤ → List ℤ
-limits a c b d e = a ∷ c ∷ b ∷ d ∷ e ∷ []
+-- its limits: lowest, cut and highest of u, lowest and highest of v
+abbrev bounds : ℤ → ℤ → ℤ → ℤ → ℤ → List ℤ
+bounds a c b d e = a ∷ c ∷ b ∷ d ∷ e ∷ []
 
--- at both ends of the range, the cut at the lowest, and lowest and highest of variable 1 equal: good;
+-- at both ends of the range, the cut at the lowest, and lowest and highest of v equal: good;
 -- a cut at the highest, or below the lowest; a lowest above its highest; then one limit after the other one past the range: not good
-limits-good : map (good small) (limits (negℤ (pos 2000)) (negℤ (pos 2000)) (negℤ (pos 1999)) (pos 2000) (pos 2000)
-    ∷ limits (negℤ (pos 10)) (pos 20) (pos 20) (negℤ (pos 5)) (pos 0)
-    ∷ limits (negℤ (pos 10)) (negℤ (pos 11)) (pos 20) (negℤ (pos 5)) (pos 0)
-    ∷ limits (negℤ (pos 10)) (pos 3) (pos 20) (pos 1) (pos 0)
-    ∷ limits (negℤ (pos 2001)) (pos 3) (pos 20) (negℤ (pos 5)) (pos 0)
-    ∷ limits (negℤ (pos 10)) (pos 3) (pos 2001) (negℤ (pos 5)) (pos 0)
-    ∷ limits (negℤ (pos 10)) (pos 3) (pos 20) (negℤ (pos 2001)) (pos 0)
-    ∷ limits (negℤ (pos 10)) (pos 3) (pos 20) (negℤ (pos 5)) (pos 2001)
+limits-good : map (good smallShape) (bounds (negℤ (pos 2000)) (negℤ (pos 2000)) (negℤ (pos 1999)) (pos 2000) (pos 2000)
+    ∷ bounds (negℤ (pos 10)) (pos 20) (pos 20) (negℤ (pos 5)) (pos 0)
+    ∷ bounds (negℤ (pos 10)) (negℤ (pos 11)) (pos 20) (negℤ (pos 5)) (pos 0)
+    ∷ bounds (negℤ (pos 10)) (pos 3) (pos 20) (pos 1) (pos 0)
+    ∷ bounds (negℤ (pos 2001)) (pos 3) (pos 20) (negℤ (pos 5)) (pos 0)
+    ∷ bounds (negℤ (pos 10)) (pos 3) (pos 2001) (negℤ (pos 5)) (pos 0)
+    ∷ bounds (negℤ (pos 10)) (pos 3) (pos 20) (negℤ (pos 2001)) (pos 0)
+    ∷ bounds (negℤ (pos 10)) (pos 3) (pos 20) (negℤ (pos 5)) (pos 2001)
     ∷ []) ≡ true ∷ replicate 7 false
 unfolding every allInRange good
 limits-good = refl
 
--- of variable 0 below and above the cut, then of variable 1
+-- of u below and above the cut, then of v
 abbrev reaches : List ℤ → List ℕ
 reaches t = reach t low 0 ∷ reach t high 0 ∷ reach t low 1 ∷ reach t high 1 ∷ []
 
 -- -10 to -8 and -7 to 5, -5 to 0; 1 to 6 and 7 to 9, -1 to 4; 0 to 0 and 1 to 1, 0 to 0
-reaches-worked : map reaches (limits (negℤ (pos 10)) (negℤ (pos 8)) (pos 5) (negℤ (pos 5)) (pos 0)
-    ∷ limits (pos 1) (pos 6) (pos 9) (negℤ (pos 1)) (pos 4)
-    ∷ limits (pos 0) (pos 0) (pos 1) (pos 0) (pos 0)
+reaches-worked : map reaches (bounds (negℤ (pos 10)) (negℤ (pos 8)) (pos 5) (negℤ (pos 5)) (pos 0)
+    ∷ bounds (pos 1) (pos 6) (pos 9) (negℤ (pos 1)) (pos 4)
+    ∷ bounds (pos 0) (pos 0) (pos 1) (pos 0) (pos 0)
     ∷ []) ≡ (10 ∷ 7 ∷ 5 ∷ 5 ∷ []) ∷ (6 ∷ 9 ∷ 4 ∷ 4 ∷ []) ∷ (1 ∷ 1 ∷ 1 ∷ 1 ∷ []) ∷ []
 reaches-worked = refl
 
@@ -106,32 +106,32 @@ reaches-worked = refl
 -- limits -10, 3 and 20, and -5 and 0. Up to the cut 100 + 7 u - 2 v and 1 - u, above it 40 - u + 6 v and 2 + 3 u; 1000 and -500 are added in both
 abbrev table : List ℤ
 table =
-    limits (negℤ (pos 10)) (pos 3) (pos 20) (negℤ (pos 5)) (pos 0)
+    bounds (negℤ (pos 10)) (pos 3) (pos 20) (negℤ (pos 5)) (pos 0)
     ++ ((pos 100 ∷ pos 7 ∷ negℤ (pos 2) ∷ []) ++ (pos 40 ∷ negℤ (pos 1) ∷ pos 6 ∷ []) ++ pos 1000 ∷ [])
     ++ ((pos 1 ∷ negℤ (pos 1) ∷ pos 0 ∷ []) ++ (pos 2 ∷ pos 3 ∷ pos 0 ∷ []) ++ negℤ (pos 500) ∷ [])
 
-blocks : map (block small table) (0 ∷ 1 ∷ [])
+blocks-taken : map (block smallShape table) (0 ∷ 1 ∷ [])
     ≡ (pos 100 ∷ pos 7 ∷ negℤ (pos 2) ∷ pos 40 ∷ negℤ (pos 1) ∷ pos 6 ∷ pos 1000 ∷ []) ∷ (pos 1 ∷ negℤ (pos 1) ∷ pos 0 ∷ pos 2 ∷ pos 3 ∷ pos 0 ∷ negℤ (pos 500) ∷ []) ∷ []
 unfolding kindsLength below
-blocks = refl
+blocks-taken = refl
 
 -- at the cut 100 + 21 + 6 + 1000 and 1 - 3 - 500; one past it 40 - 4 - 18 + 1000 and 2 + 12 - 500
-table-read : map (λ u. values small table (readings (u ∷ negℤ (pos 3) ∷ []))) (pos 3 ∷ pos 4 ∷ [])
+table-read : map (λ u. values smallShape table (readings (u ∷ negℤ (pos 3) ∷ []))) (pos 3 ∷ pos 4 ∷ [])
     ≡ (pos 1127 ∷ negℤ (pos 502) ∷ []) ∷ (pos 1018 ∷ negℤ (pos 486) ∷ []) ∷ []
 unfolding sum listed powers below term evaluated total kindsLength groups chosen coefficient values pow one
 table-read = refl
 
 -- by 4 in u: limits -14, -1 and 16; 128 + 7 u - 2 v and -3 - u, 36 - u + 6 v and 14 + 3 u
-moved-in-u : movedTable small 0 (pos 4) table
-    ≡ limits (negℤ (pos 14)) (negℤ (pos 1)) (pos 16) (negℤ (pos 5)) (pos 0)
+moved-in-u : movedTable smallShape 0 (pos 4) table
+    ≡ bounds (negℤ (pos 14)) (negℤ (pos 1)) (pos 16) (negℤ (pos 5)) (pos 0)
     ++ ((pos 128 ∷ pos 7 ∷ negℤ (pos 2) ∷ []) ++ (pos 36 ∷ negℤ (pos 1) ∷ pos 6 ∷ []) ++ pos 1000 ∷ [])
     ++ ((negℤ (pos 3) ∷ negℤ (pos 1) ∷ pos 0 ∷ []) ++ (pos 14 ∷ pos 3 ∷ pos 0 ∷ []) ++ negℤ (pos 500) ∷ [])
 unfolding sum listed powers below choose number term evaluated given movedNumber replaced movedGroup kindsLength groups laidOut movedLimit movedLimits movedBlock joined movedTable pow one
 moved-in-u = refl
 
 -- by 2 in v: limits -7 and -2; 96 + 7 u - 2 v and 52 - u + 6 v
-moved-in-v : movedTable small 1 (pos 2) table
-    ≡ limits (negℤ (pos 10)) (pos 3) (pos 20) (negℤ (pos 7)) (negℤ (pos 2))
+moved-in-v : movedTable smallShape 1 (pos 2) table
+    ≡ bounds (negℤ (pos 10)) (pos 3) (pos 20) (negℤ (pos 7)) (negℤ (pos 2))
     ++ ((pos 96 ∷ pos 7 ∷ negℤ (pos 2) ∷ []) ++ (pos 52 ∷ negℤ (pos 1) ∷ pos 6 ∷ []) ++ pos 1000 ∷ [])
     ++ ((pos 1 ∷ negℤ (pos 1) ∷ pos 0 ∷ []) ++ (pos 2 ∷ pos 3 ∷ pos 0 ∷ []) ++ negℤ (pos 500) ∷ [])
 unfolding sum listed powers below choose number term evaluated given movedNumber replaced movedGroup kindsLength groups laidOut movedLimit movedLimits movedBlock joined movedTable pow one
@@ -147,46 +147,69 @@ heavy l a b c d = l ++ (piece a ++ piece b ++ pos 0 ∷ []) ++ (piece c ++ piece
 
 -- u reaches 10 in the low piece and 7 in the high one, v 5
 abbrev wide : List ℤ
-wide = limits (negℤ (pos 10)) (negℤ (pos 8)) (pos 5) (negℤ (pos 5)) (pos 0)
+wide = bounds (negℤ (pos 10)) (negℤ (pos 8)) (pos 5) (negℤ (pos 5)) (pos 0)
 
 -- 10 + 2 x 5 are added in the low piece and 7 + 2 x 5 in the high one: at the cap in all four, then one past it in one of them
-weights : map (light small) (heavy wide 20 17 20 17 ∷ heavy wide 19 17 20 17 ∷ heavy wide 20 16 20 17 ∷ heavy wide 20 17 19 17 ∷ heavy wide 20 17 20 16 ∷ [])
+weights-at-cap : map (light smallShape) (heavy wide 20 17 20 17 ∷ heavy wide 19 17 20 17 ∷ heavy wide 20 16 20 17 ∷ heavy wide 20 17 19 17 ∷ heavy wide 20 17 20 16 ∷ [])
     ≡ true ∷ replicate 4 false
 unfolding sum powers below term evaluated totalWeight kindsLength every groups chosen coefficient withinCap
-weights = refl
+weights-at-cap = refl
 
 -- limits that are not good
 abbrev turned : List ℤ
-turned = limits (negℤ (pos 10)) (negℤ (pos 8)) (pos 5) (pos 0) (negℤ (pos 5))
+turned = bounds (negℤ (pos 10)) (negℤ (pos 8)) (pos 5) (pos 0) (negℤ (pos 5))
 
-soundness : map (sound small) (heavy wide 20 17 20 17 ∷ heavy wide 0 0 0 0 ∷ heavy turned 20 17 20 17 ∷ []) ≡ true ∷ false ∷ false ∷ []
+sound-or-not : map (sound smallShape) (heavy wide 20 17 20 17 ∷ heavy wide 0 0 0 0 ∷ heavy turned 20 17 20 17 ∷ []) ≡ true ∷ false ∷ false ∷ []
 unfolding sum powers below term evaluated totalWeight kindsLength every allInRange good groups chosen coefficient withinCap
-soundness = refl
+sound-or-not = refl
 
 -- ════ the numbers given back, and their order
 -- readings at the limits are inside, one past them outside
-ends : map (λ u. inside wide (readings (u ∷ [])) 0) (negℤ (pos 11) ∷ negℤ (pos 10) ∷ pos 5 ∷ pos 6 ∷ []) ≡ false ∷ true ∷ true ∷ false ∷ []
-ends = refl
+ends-inside : map (λ u. inside wide (readings (u ∷ [])) 0) (negℤ (pos 11) ∷ negℤ (pos 10) ∷ pos 5 ∷ pos 6 ∷ []) ≡ false ∷ true ∷ true ∷ false ∷ []
+ends-inside = refl
 
 -- a variable that has no reading reads 0
 no-reading : readings (pos 6 ∷ []) 1 ≡ pos 0
 no-reading = refl
 
--- in each line all is wrong that the lines before are refused for no more
-read-order : readNumber small [] (readings (pos 6 ∷ pos 1 ∷ [])) []
-    ∷ readNumber small (heavy turned 0 0 0 0) (readings (pos 6 ∷ pos 1 ∷ [])) []
-    ∷ readNumber small (heavy turned 0 0 0 0) (readings (pos 6 ∷ pos 1 ∷ [])) (replicate 2 (pos 0))
-    ∷ readNumber small (heavy wide 0 0 0 0) (readings (pos 6 ∷ pos 1 ∷ [])) (replicate 2 (pos 0))
-    ∷ readNumber small (heavy wide 20 17 20 17) (readings (pos 6 ∷ pos 1 ∷ [])) (replicate 2 (pos 0))
-    ∷ readNumber small (heavy wide 20 17 20 17) (readings (pos 5 ∷ pos 1 ∷ [])) (replicate 2 (pos 0))
-    ∷ readNumber small (heavy wide 20 17 20 17) (readings (pos 5 ∷ pos 0 ∷ [])) (replicate 2 (pos 0))
+-- the numbers given back at an output of n numbers
+unfoldable readGives : List ℤ → List ℤ → ℕ → ℕ
+unfolding sum listed powers below term evaluated totalWeight kindsLength every allInRange good groups chosen coefficient withinCap first readNumber
+readGives t x n = readNumber smallShape t (readings x) (replicate n (pos 0))
+
+unfoldable moveGives : List ℤ → ℕ → ℤ → ℕ → ℕ
+unfolding sum listed powers below term evaluated totalWeight longer kindsLength every allInRange good groups chosen coefficient withinCap first movedLimit movedLimits moveNumber
+moveGives t i s n = moveNumber smallShape t i s (replicate n (pos 0))
+
+-- each line mends what the line before is refused for, and leaves wrong whatever comes after it in the order
+read-order : readGives [] (pos 6 ∷ pos 1 ∷ []) 0
+    ∷ readGives (heavy turned 0 0 0 0) (pos 6 ∷ pos 1 ∷ []) 0
+    ∷ readGives (heavy turned 0 0 0 0) (pos 6 ∷ pos 1 ∷ []) 2
+    ∷ readGives (heavy wide 0 0 0 0) (pos 6 ∷ pos 1 ∷ []) 2
+    ∷ readGives (heavy wide 20 17 20 17) (pos 6 ∷ pos 1 ∷ []) 2
+    ∷ readGives (heavy wide 20 17 20 17) (pos 5 ∷ pos 1 ∷ []) 2
+    ∷ readGives (heavy wide 20 17 20 17) (pos 5 ∷ pos 0 ∷ []) 2
     ∷ []
     ≡ 1 ∷ 2 ∷ 3 ∷ 4 ∷ 11 ∷ 12 ∷ 0 ∷ []
-unfolding sum listed powers below term evaluated totalWeight kindsLength every allInRange good groups chosen coefficient withinCap first readNumber
+unfolding readGives
 read-order = refl
 
+-- by 1991 the lowest of u comes to -2001, and by 1990 to -2000; either is too heavy
+move-order : moveGives [] 2 (pos 1991) 0
+    ∷ moveGives (heavy turned 0 0 0 0) 2 (pos 1991) 0
+    ∷ moveGives (heavy turned 0 0 0 0) 2 (pos 1991) 19
+    ∷ moveGives (heavy turned 0 0 0 0) 0 (pos 1991) 19
+    ∷ moveGives (heavy wide 0 0 0 0) 0 (pos 1991) 19
+    ∷ moveGives (heavy wide 20 17 20 17) 0 (pos 1991) 19
+    ∷ moveGives (heavy wide 20 17 20 17) 0 (pos 1990) 19
+    ∷ moveGives (heavy wide 20 17 20 17) 0 (pos 0) 19
+    ∷ []
+    ≡ 1 ∷ 2 ∷ 5 ∷ 3 ∷ 4 ∷ 6 ∷ 7 ∷ 0 ∷ []
+unfolding moveGives
+move-order = refl
+
 -- the lengths that a Cumulus One table asks for: 311 and 6 for a read, 311 twice for a move, and variables up to 4. Zeros are no good limits
-asked : readNumber cumulus (replicate 310 (pos 0)) (readings []) (replicate 6 (pos 0))
+lengths-asked : readNumber cumulus (replicate 310 (pos 0)) (readings []) (replicate 6 (pos 0))
     ∷ readNumber cumulus (replicate 311 (pos 0)) (readings []) (replicate 5 (pos 0))
     ∷ readNumber cumulus (replicate 311 (pos 0)) (readings []) (replicate 6 (pos 0))
     ∷ moveNumber cumulus (replicate 311 (pos 0)) 4 (pos 0) (replicate 310 (pos 0))
@@ -196,39 +219,24 @@ asked : readNumber cumulus (replicate 310 (pos 0)) (readings []) (replicate 6 (p
     ∷ []
     ≡ 1 ∷ 2 ∷ 3 ∷ 2 ∷ 5 ∷ 3 ∷ 6 ∷ []
 unfolding listed below kindsLength every allInRange good first values readNumber moveNumber
-asked = refl
-
--- by 1991 the lowest of variable 0 comes to -2001, and by 1990 to -2000; either is too heavy
-move-order : moveNumber small [] 2 (pos 1991) []
-    ∷ moveNumber small (heavy turned 0 0 0 0) 2 (pos 1991) []
-    ∷ moveNumber small (heavy turned 0 0 0 0) 2 (pos 1991) (replicate 19 (pos 0))
-    ∷ moveNumber small (heavy turned 0 0 0 0) 0 (pos 1991) (replicate 19 (pos 0))
-    ∷ moveNumber small (heavy wide 0 0 0 0) 0 (pos 1991) (replicate 19 (pos 0))
-    ∷ moveNumber small (heavy wide 20 17 20 17) 0 (pos 1991) (replicate 19 (pos 0))
-    ∷ moveNumber small (heavy wide 20 17 20 17) 0 (pos 1990) (replicate 19 (pos 0))
-    ∷ moveNumber small (heavy wide 20 17 20 17) 0 (pos 0) (replicate 19 (pos 0))
-    ∷ []
-    ≡ 1 ∷ 2 ∷ 5 ∷ 3 ∷ 4 ∷ 6 ∷ 7 ∷ 0 ∷ []
-unfolding sum listed powers below term evaluated totalWeight longer kindsLength every allInRange good groups chosen coefficient withinCap first movedLimit movedLimits moveNumber
-move-order = refl
+lengths-asked = refl
 
 -- by -2 the limits of u come to -8, -6 and 7, so that it reaches 8 and 7, and with the size of the shift 10 and 9; v reaches 5 as before: at the cap
 -- where 20 and 19 are short of it. Moved, the numbers would be lighter by 2; at the old reach of 10 the low piece would pass the cap
-move-weights-u : map (λ t. moveNumber small t 0 (negℤ (pos 2)) (replicate 19 (pos 0))) (heavy wide 20 19 20 19 ∷ heavy wide 20 18 20 19 ∷ heavy wide 20 19 20 18 ∷ [])
-    ≡ 0 ∷ 7 ∷ 7 ∷ []
-unfolding sum listed powers below term evaluated totalWeight longer kindsLength every allInRange good groups chosen coefficient withinCap first movedLimit movedLimits moveNumber
+move-weights-u : map (λ t. moveGives t 0 (negℤ (pos 2)) 19) (heavy wide 20 19 20 19 ∷ heavy wide 20 18 20 19 ∷ heavy wide 20 19 20 18 ∷ []) ≡ 0 ∷ 7 ∷ 7 ∷ []
+unfolding moveGives
 move-weights-u = refl
 
--- by 2 the limits of v come to -7 and -2, so that it reaches 7, and with the shift 9; u reaches 10 and 7 as before: 10 + 2 x 9 and 7 + 2 x 9
-move-weights-v : map (λ t. moveNumber small t 1 (pos 2) (replicate 19 (pos 0))) (heavy wide 28 25 28 25 ∷ heavy wide 27 25 28 25 ∷ heavy wide 28 25 28 24 ∷ []) ≡ 0 ∷ 7 ∷ 7 ∷ []
-unfolding sum listed powers below term evaluated totalWeight longer kindsLength every allInRange good groups chosen coefficient withinCap first movedLimit movedLimits moveNumber
+-- by 2 the limits of v come to -7 and -2, so that it reaches 7, and with the size of the shift 9; u reaches 10 and 7 as before: 10 + 2 x 9 and 7 + 2 x 9
+move-weights-v : map (λ t. moveGives t 1 (pos 2) 19) (heavy wide 28 25 28 25 ∷ heavy wide 27 25 28 25 ∷ heavy wide 28 25 28 24 ∷ []) ≡ 0 ∷ 7 ∷ 7 ∷ []
+unfolding moveGives
 move-weights-v = refl
 
 -- an answer takes the place of what the output had, and a refusal keeps it
-read-output : map (λ u. readOutput small table (readings (u ∷ negℤ (pos 3) ∷ [])) (pos 8 ∷ pos 9 ∷ [])) (pos 20 ∷ pos 21 ∷ []) ≡ (pos 1002 ∷ negℤ (pos 438) ∷ []) ∷ (pos 8 ∷ pos 9 ∷ []) ∷ []
+read-output : map (λ u. readOutput smallShape table (readings (u ∷ negℤ (pos 3) ∷ [])) (pos 8 ∷ pos 9 ∷ [])) (pos 20 ∷ pos 21 ∷ []) ≡ (pos 1002 ∷ negℤ (pos 438) ∷ []) ∷ (pos 8 ∷ pos 9 ∷ []) ∷ []
 unfolding sum listed powers below term evaluated total totalWeight kindsLength every allInRange good groups chosen coefficient withinCap first values readNumber readOutput pow one
 read-output = refl
 
-move-output : map (λ i. getD (moveOutput small table i (pos 4) (replicate 19 (pos 8))) 0 (pos 0)) (0 ∷ 2 ∷ []) ≡ negℤ (pos 14) ∷ pos 8 ∷ []
+move-output : map (λ i. getD (moveOutput smallShape table i (pos 4) (replicate 19 (pos 8))) 0 (pos 0)) (0 ∷ 2 ∷ []) ≡ negℤ (pos 14) ∷ pos 8 ∷ []
 unfolding sum listed powers below choose number term evaluated given movedNumber replaced totalWeight movedGroup longer kindsLength every allInRange good groups laidOut chosen coefficient withinCap first movedLimit movedLimits movedBlock joined movedTable moveNumber moveOutput pow one
 move-output = refl
