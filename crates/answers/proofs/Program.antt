@@ -1,7 +1,6 @@
--- However an input is cut into pieces, the answers to them and to the last line are what the program writes for the whole input.
+-- The answers to an input's lines as they end, and to the last line, are what the program writes for the input.
 --   answers-append, readings-append   two pieces are their bytes one after the other
 --   whole                             the input in one piece
---   pieces                            in any pieces
 use mathlib.Core.Path.{_≡_, refl, sym, ap, ap₂, _∙_}
 use mathlib.Core.Bool.{Bool, true, false, cond}
 use mathlib.Core.List.{List, [], _∷_, _++_, append-assoc, append-nil}
@@ -98,22 +97,3 @@ module _ (t : List ℤ) where
   pub whole : (bs : List ℕ) → answersOf t fresh bs ++ lastAnswer t (readingsAfter fresh bs) ≡ program t bs
   unfolding program written-from reading begun ontoAll
   whole bs = from bs []
-
-  -- the answers to pieces one after the other, and to the last line
-  abbrev pub answersAll : Reading → List (List ℕ) → List ℕ
-  answersAll r [] = lastAnswer t r
-  answersAll r (p ∷ ps) = answersOf t r p ++ answersAll (readingsAfter r p) ps
-
-  abbrev pub all : List (List ℕ) → List ℕ
-  all [] = []
-  all (p ∷ ps) = p ++ all ps
-
-  as-one : (r : Reading) (ps : List (List ℕ)) → answersAll r ps ≡ answersOf t r (all ps) ++ lastAnswer t (readingsAfter r (all ps))
-  as-one r [] = refl
-  as-one r (p ∷ ps) =
-      ap (λ bs. answersOf t r p ++ bs) (as-one (readingsAfter r p) ps)
-      ∙ sym (append-assoc (answersOf t r p) (answersOf t (readingsAfter r p) (all ps)) (lastAnswer t (readingsAfter (readingsAfter r p) (all ps))))
-      ∙ ap₂ (λ xs s. xs ++ lastAnswer t s) (sym (answers-append t r p (all ps))) (sym (readings-append r p (all ps)))
-
-  pub pieces : (ps : List (List ℕ)) → answersAll fresh ps ≡ program t (all ps)
-  pieces ps = as-one fresh ps ∙ whole (all ps)
