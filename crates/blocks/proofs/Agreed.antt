@@ -2,15 +2,13 @@
 --   weight-agreed      reaches that agree there give the same weight
 --   withinCap-agreed   and the same answer of the weight check
 use mathlib.Core.Path.{_≡_, sym, _∙_, ap, ap₂, fun-ext}
-use mathlib.Core.Bool.{Bool}
 use mathlib.Core.List.{List, [], _∷_}
-use Prim.Native.Nat.{ℕ, zero, suc, _+_, _*_, _<_}
+use Prim.Native.Nat.{ℕ, _+_, _<_}
 use native.Mathlib.Omega.{arith}
 use lib.Dec.{leb}
 use lib.IntN.{ℤ}
-use lib.ListN.{take, drop}
 use Rattle.polynomials.specs.Group.{weight}
-use Rattle.polynomials.specs.Groups.{Group, totalWeight}
+use Rattle.polynomials.specs.Groups.{totalWeight}
 use Rattle.polynomials.specs.Limits.{cap}
 use Rattle.layout.specs.Shape.{cumulus}
 use Rattle.layout.specs.Limits.{every}
@@ -19,7 +17,7 @@ use Rattle.layout.specs.Sound.{withinCap}
 use Rattle.blocks.specs.Ready.{grouped}
 use Rattle.blocks.proofs.Parts.{coefficient-parts}
 
-module _ (r a : ℕ → ℕ) (h : (i : ℕ) → i < 5 → r i ≡ a i) where
+module _ (r a : ℕ → ℕ) (h : (i : ℕ) → i < cumulus .variables → r i ≡ a i) where
   three-agreed : (k l m : List ℤ) → totalWeight (grouped 0 3 k ∷ grouped 1 2 l ∷ grouped 1 4 m ∷ []) r ≡ totalWeight (grouped 0 3 k ∷ grouped 1 2 l ∷ grouped 1 4 m ∷ []) a
   unfolding totalWeight
   three-agreed k l m =
@@ -34,7 +32,7 @@ module _ (r a : ℕ → ℕ) (h : (i : ℕ) → i < 5 → r i ≡ a i) where
   weight-agreed t b low = part-agreed t b 0 (omega arith)
   weight-agreed t b high = part-agreed t b 1 (omega arith)
 
-pub withinCap-agreed : (t : List ℤ) (r a : Piece → ℕ → ℕ) → ((p : Piece) (i : ℕ) → i < 5 → r p i ≡ a p i) → withinCap cumulus t r ≡ withinCap cumulus t a
+pub withinCap-agreed : (t : List ℤ) (r a : Piece → ℕ → ℕ) → ((p : Piece) (i : ℕ) → i < cumulus .variables → r p i ≡ a p i) → withinCap cumulus t r ≡ withinCap cumulus t a
 unfolding withinCap
 withinCap-agreed t r a h =
-    ap (every 6) (fun-ext (λ b. ap (every 2) (fun-ext (λ n. ap (λ w. leb w cap) (weight-agreed (r (piece n)) (a (piece n)) (h (piece n)) t b (piece n))))))
+    ap (every (cumulus .blocks)) (fun-ext (λ b. ap (every 2) (fun-ext (λ n. ap (λ w. leb w cap) (weight-agreed (r (piece n)) (a (piece n)) (h (piece n)) t b (piece n))))))

@@ -2,14 +2,14 @@
 --   groups-between    the groups of a block
 --   shiftable         each of them can be moved where the block can
 --   filled            four groups placed one after another make the moved block
-use mathlib.Core.Path.{_≡_, refl, sym, _∙_, ap, ap₂, subst}
+use mathlib.Core.Path.{_≡_, refl, sym, _∙_, ap, subst}
 use mathlib.Core.List.{List, [], _∷_, _++_, append-assoc, append-nil}
-use Prim.Native.Nat.{ℕ, zero, suc, _+_, _-_, _≤_, _<_}
+use Prim.Native.Nat.{ℕ, _+_, _-_, _≤_}
 use native.Mathlib.Omega.{arith}
 use lib.Dec.{eqb}
-use lib.IntN.{ℤ, natAbs}
+use lib.IntN.{ℤ}
 use lib.ListN.{length, take, drop, length-take, length-drop}
-use lib.Seq.{drop-drop, take-all, length-take-le}
+use lib.Seq.{drop-drop, take-all}
 use Rattle.polynomials.specs.Order.{below}
 use Rattle.polynomials.specs.Groups.{Group, weightOf, totalWeight, movedGroup, movedGroups}
 use Rattle.polynomials.specs.Limits.{cap}
@@ -18,7 +18,7 @@ use Rattle.layout.specs.Shape.{kindsLength, cumulus}
 use Rattle.layout.specs.Numbers.{pitchSize, sideSize, xiStart, zetaStart, blockSize}
 use Rattle.layout.specs.Blocks.{low, high, groups, laidOut, chosen}
 use Rattle.layout.specs.Moving.{movedBlock}
-use Rattle.blocks.specs.Ready.{grouped, between, placed, shiftReach, ShiftableGroup, Between, Shiftable}
+use Rattle.blocks.specs.Ready.{grouped, between, placed, shiftReach, ShiftableGroup, Shiftable}
 use Rattle.blocks.proofs.Filled.{length-placed, take-placed}
 
 -- the four groups of a block

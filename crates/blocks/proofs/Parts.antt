@@ -1,15 +1,15 @@
 -- The groups of a Cumulus One coefficient, by the places of the table where they stand.
 --   part-part           a part of a part of a list
 --   coefficient-parts   the three groups of a block that count in a piece
-use mathlib.Core.Path.{_≡_, refl, sym, _∙_, ap, ap₂}
+use mathlib.Core.Path.{_≡_, refl, _∙_, ap}
 use mathlib.Core.List.{List, [], _∷_}
 use Prim.Native.Nat.{ℕ, zero, suc, _+_, _*_, _≤_, _<_}
 use native.Mathlib.Omega.{arith}
 use lib.IntN.{ℤ}
 use lib.ListN.{take, drop}
-use lib.Seq.{take-take, drop-drop, take-nil, drop-nil}
+use lib.Seq.{take-take, drop-drop}
 use Rattle.polynomials.specs.Order.{below}
-use Rattle.layout.specs.Shape.{kindsLength, blockStart, cumulus}
+use Rattle.layout.specs.Shape.{kindsLength, cumulus}
 use Rattle.layout.specs.Numbers.{limitsSize, pitchSize, sideSize, xiStart, zetaStart, blockSize}
 use Rattle.layout.specs.Blocks.{piece, groups, chosen, coefficient}
 use Rattle.blocks.specs.Ready.{grouped}

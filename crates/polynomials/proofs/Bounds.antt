@@ -6,19 +6,19 @@
 --   weight-moved                             law 6: the moved group at its reaches weighs no more than the old one with the moved variable's reach longer by |s|
 --   moved-within, moved-part-within, moved-some-within   law 6: a number of the moved group, the sum of the first terms that make it, the sum of any of them
 --   given-within                             law 6: one of those terms
-use mathlib.Core.Path.{_≡_, refl, sym, _∙_, ap, ap₂, subst}
+use mathlib.Core.Path.{_≡_, sym, _∙_, ap, ap₂, subst}
 use mathlib.Core.Bool.{Bool, true, false, cond}
 use mathlib.Core.List.{List, map}
 use Prim.Native.Nat.{ℕ, zero, suc, _+_, _-_, _*_, _^_, _≤_, _<_}
 use native.Mathlib.Nat as N
 use native.Mathlib.Omega.{arith}
-use lib.IntN.{ℤ, pos, natAbs, pow, _+ℤ_, _*ℤ_}
+use lib.IntN.{ℤ, pos, natAbs, pow, _*ℤ_}
 use lib.ListN.{length, getD, length-map, List·getD-map}
-use Rattle.whole.proofs.Magnitudes.{natAbs-+, natAbs-*, natAbs-pow, Within, within, within-*, within-pow, fewer, factor}
+use Rattle.whole.proofs.Magnitudes.{natAbs-+, within, within-*, within-pow}
 use Rattle.polynomials.specs.Numbers.{ints, nats}
-use Rattle.polynomials.specs.Sum.{sum, listed}
+use Rattle.polynomials.specs.Sum.{sum}
 use Rattle.polynomials.specs.Order.{powers, place}
-use Rattle.polynomials.specs.Binomial.{choose, multipliedOut}
+use Rattle.polynomials.specs.Binomial.{choose}
 use Rattle.polynomials.specs.Group.{own, raised, number, term, evaluated, given, movedNumber, replaced, value, weight, moved}
 use Rattle.polynomials.specs.declared.Variable.{Variable}
 use Rattle.polynomials.specs.declared.Variable.the-variants.{First, Second}

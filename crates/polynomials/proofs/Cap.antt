@@ -10,7 +10,6 @@ use native.Mathlib.Decide.{decLe}
 use native.Mathlib.Omega.{arith}
 use borrow.Author.Tests.{le-leb, lt-leb}
 use Rattle.polynomials.specs.Limits.{cap, against}
-use Rattle.polynomials.specs.declared.Weighed.{Weighed}
 use Rattle.polynomials.specs.declared.Weighed.the-variants.{Within, Passed}
 
 pub against-within : (n : ℕ) → n ≤ cap → Within n ≡ against n

@@ -56,24 +56,24 @@ module _ (r : ℕ → ℕ) (i n : ℕ) where
   abbrev changed : List ℤ
   changed = set (listedReaches r) i (getD (listedReaches r) i (pos 0) +ℤ pos n)
 
-  changed-same : i < 5 → getD changed i (pos 0) ≡ pos (r i + n)
+  changed-same : i < cumulus .variables → getD changed i (pos 0) ≡ pos (r i + n)
   changed-same h =
-      getD-set-same (listedReaches r) i _ (pos 0) (subst (λ m. i < m) (sym (length-listed 5 _)) h) ∙ ap (λ z. z +ℤ pos n) (reach-listed r i h)
+      getD-set-same (listedReaches r) i _ (pos 0) (subst (λ m. i < m) (sym (length-listed (cumulus .variables) _)) h) ∙ ap (λ z. z +ℤ pos n) (reach-listed r i h)
 
-  changed-at : i < 5 → (k : ℕ) → k < 5 → (b : Bool) → eqb k i ≡ b → getD changed k (pos 0) ≡ pos (cond b (r k + n) (r k))
+  changed-at : i < cumulus .variables → (k : ℕ) → k < cumulus .variables → (b : Bool) → eqb k i ≡ b → getD changed k (pos 0) ≡ pos (cond b (r k + n) (r k))
   changed-at h k l true e = subst (λ j. getD changed j (pos 0) ≡ pos (r j + n)) (sym (eqb-true k i e)) (changed-same h)
   changed-at h k l false e = getD-set-other (listedReaches r) i k (getD (listedReaches r) i (pos 0) +ℤ pos n) (pos 0) (eqb-false k i e) ∙ reach-listed r k l
 
-  changed-is : i < 5 → changed ≡ listedReaches (longer i n r)
+  changed-is : i < cumulus .variables → changed ≡ listedReaches (longer i n r)
   unfolding longer
   changed-is h =
-      sym (listed-is (pos 0) 5 _ changed (length-set (listedReaches r) i _ ∙ length-listed 5 _) (λ k l. changed-at h k l (eqb k i) refl))
+      sym (listed-is (pos 0) (cumulus .variables) _ changed (length-set (listedReaches r) i _ ∙ length-listed (cumulus .variables) _) (λ k l. changed-at h k l (eqb k i) refl))
 
-pub longer-listed : (r : ℕ → ℕ) (i : ℕ) {l : List ℤ} {z s : ℤ} → i < 5 → l ≡ listedReaches r → z ≡ s → set l i (getD l i (pos 0) +ℤ pos (natAbs z)) ≡ listedReaches (longer i (natAbs s) r)
+pub longer-listed : (r : ℕ → ℕ) (i : ℕ) {l : List ℤ} {z s : ℤ} → i < cumulus .variables → l ≡ listedReaches r → z ≡ s → set l i (getD l i (pos 0) +ℤ pos (natAbs z)) ≡ listedReaches (longer i (natAbs s) r)
 longer-listed r i {s} h e f = (λ j. set (e j) i (getD (e j) i (pos 0) +ℤ pos (natAbs (f j)))) ∙ changed-is r i (natAbs s) h
 
 -- ---- a move of a table with good limits
-module _ (t : List ℤ) (i : ℕ) (s : ℤ) (h : i < 5) (g : good cumulus t ≡ true) where
+module _ (t : List ℤ) (i : ℕ) (s : ℤ) (h : i < cumulus .variables) (g : good cumulus t ≡ true) where
   pub move-far : 4000 < natAbs s → allInRange cumulus (movedLimits cumulus i s t) ≡ false
   move-far k = not-so (λ e. let near : natAbs s ≤ 4000 = move-within cumulus i s t h g e in omega arith)
 
@@ -82,12 +82,12 @@ module _ (t : List ℤ) (i : ℕ) (s : ℤ) (h : i < 5) (g : good cumulus t ≡ 
     abbrev moved : ℕ → ℕ
     moved = reach (movedLimits cumulus i s t) p
 
-    moved-within : (k : ℕ) → k < 5 → moved k ≤ 2000
+    moved-within : (k : ℕ) → k < cumulus .variables → moved k ≤ 2000
     moved-within k l = moved-reach-within cumulus i s t (omega arith) e g p k l
 
     pub lengthened : Lengthened (listedReaches moved) i s
     lengthened = record {
-      five = length-listed 5 _;
+      five = length-listed (cumulus .variables) _;
       variable = h;
       reach = rw (reach-listed moved i h) (N.le-trans (moved-within i h) (omega arith));
       near = N.le-trans (move-within cumulus i s t h g e) (omega arith);
@@ -96,7 +96,7 @@ module _ (t : List ℤ) (i : ℕ) (s : ℤ) (h : i < 5) (g : good cumulus t ≡ 
     pub move-reaching : Reaching (listedReaches (moveReach cumulus i s t p))
     move-reaching = reaching (moveReach cumulus i s t p) each
       where
-        each : (k : ℕ) → k < 5 → (1 ≤ moveReach cumulus i s t p k) × (moveReach cumulus i s t p k ≤ farthest)
+        each : (k : ℕ) → k < cumulus .variables → (1 ≤ moveReach cumulus i s t p k) × (moveReach cumulus i s t p k ≤ farthest)
         each k l =
             let b = longer-between moved i (natAbs s) k in
             (N.le-trans (reach-one (movedLimits cumulus i s t) p k) (b .0), N.le-trans (b .1) (N.add-le-add (moved-within k l) (move-within cumulus i s t h g e)))

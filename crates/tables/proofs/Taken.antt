@@ -3,29 +3,28 @@
 --   reaching          reaches that are listed so can be weighed with
 --   checkable         and so can the table
 --   light-taken       the weight check at them is the table's
-use mathlib.Core.Path.{_≡_, refl, sym, _∙_, ap, subst}
-use mathlib.Core.Bool.{Bool, true, not}
+use mathlib.Core.Path.{_≡_, refl, _∙_, ap}
+use mathlib.Core.Bool.{true, not}
 use mathlib.Core.List.{List, []}
-use Prim.Native.Nat.{ℕ, zero, suc, _+_, _≤_, _<_}
+use Prim.Native.Nat.{ℕ, _≤_, _<_}
 use native.Mathlib.Nat as N
 use native.Mathlib.Omega.{arith}
 use lib.IntN.{ℤ, pos, natAbs}
-use lib.ListN.{length, take, getD}
-use lib.Signed.{_≤ℤ_, leZ}
+use lib.ListN.{take, getD}
 use Rattle.whole.proofs.Order.{le-in}
 use Rattle.polynomials.specs.Sum.{listed}
 use Rattle.polynomials.specs.Limits.{farthest}
 use Rattle.polynomials.proofs.Listed.{getD-listed, listed-ext}
-use Rattle.layout.specs.Shape.{limitsLength, tableLength, cumulus}
+use Rattle.layout.specs.Shape.{limitsLength, cumulus}
 use Rattle.layout.specs.Limits.{allInRange, good, cut}
-use Rattle.layout.specs.Blocks.{Piece, low, high, piece}
+use Rattle.layout.specs.Blocks.{Piece, low, high}
 use Rattle.layout.specs.Sound.{reach, withinCap, light}
 use Rattle.layout.specs.Refusals.{first, _when_, outside}
-use Rattle.layout.specs.Reading.{inside, pieceAt}
+use Rattle.layout.specs.Reading.{inside}
 use Rattle.layout.specs.Moving.{movedLimits}
-use Rattle.layout.proofs.LimitLaws.{SameLimits, limits-take, good-same, allInRange-same, reach-same, inside-same, cut-same, movedLimits-same, good-facts, GoodLimits}
+use Rattle.layout.proofs.LimitLaws.{SameLimits, limits-take, good-same, allInRange-same, reach-same, inside-same, cut-same, movedLimits-same, good-facts}
 use Rattle.layout.proofs.Reaches.{reach-one, reach-within}
-use Rattle.weights.specs.Reaches.{reachesOf, Reaching, Checkable}
+use Rattle.weights.specs.Reaches.{reachesOf, Reaching}
 use Rattle.blocks.proofs.Agreed.{withinCap-agreed}
 
 pub first-nothing : first [] ≡ 0
@@ -51,17 +50,17 @@ cut-taken t = cut-same (same t) (omega arith)
 pub moved-taken : (i : ℕ) (s : ℤ) (t : List ℤ) → movedLimits cumulus i s (taken t) ≡ movedLimits cumulus i s t
 moved-taken i s t = movedLimits-same (same t) i s
 
-pub outside-taken : (t : List ℤ) (x : ℕ → ℤ) → first (listed 5 (λ i. outside i when not (inside (taken t) x i))) ≡ first (listed 5 (λ i. outside i when not (inside t x i)))
-outside-taken t x = ap first (listed-ext (0 when true) 5 _ _ (λ i h. ap (λ b. outside i when not b) (inside-same (same t) x i h)))
+pub outside-taken : (t : List ℤ) (x : ℕ → ℤ) → first (listed (cumulus .variables) (λ i. outside i when not (inside (taken t) x i))) ≡ first (listed (cumulus .variables) (λ i. outside i when not (inside t x i)))
+outside-taken t x = ap first (listed-ext (0 when true) (cumulus .variables) _ _ (λ i h. ap (λ b. outside i when not b) (inside-same (same t) x i h)))
 
 -- ---- reaches as they are listed
 abbrev pub listedReaches : (ℕ → ℕ) → List ℤ
-listedReaches r = listed 5 (λ i. pos (r i))
+listedReaches r = listed (cumulus .variables) (λ i. pos (r i))
 
-pub reach-listed : (r : ℕ → ℕ) (i : ℕ) → i < 5 → getD (listedReaches r) i (pos 0) ≡ pos (r i)
-reach-listed r i h = getD-listed 5 (λ i. pos (r i)) i (pos 0) h
+pub reach-listed : (r : ℕ → ℕ) (i : ℕ) → i < cumulus .variables → getD (listedReaches r) i (pos 0) ≡ pos (r i)
+reach-listed r i h = getD-listed (cumulus .variables) (λ i. pos (r i)) i (pos 0) h
 
-pub reaching : (r : ℕ → ℕ) → ((i : ℕ) → i < 5 → (1 ≤ r i) × (r i ≤ farthest)) → Reaching (listedReaches r)
+pub reaching : (r : ℕ → ℕ) → ((i : ℕ) → i < cumulus .variables → (1 ≤ r i) × (r i ≤ farthest)) → Reaching (listedReaches r)
 reaching r h = record {
   one = λ i k. rw (reach-listed r i k) (le-in (omega (arith, h i k .0)));
   near = λ i k. rw (reach-listed r i k) (h i k .1);
@@ -71,13 +70,13 @@ reaching r h = record {
 pub light-listed : (t : List ℤ) (r : Piece → ℕ → ℕ) → withinCap cumulus t (reachesOf (listedReaches (r low)) (listedReaches (r high))) ≡ withinCap cumulus t r
 light-listed t r = withinCap-agreed t _ r each
   where
-    each : (p : Piece) (i : ℕ) → i < 5 → reachesOf (listedReaches (r low)) (listedReaches (r high)) p i ≡ r p i
+    each : (p : Piece) (i : ℕ) → i < cumulus .variables → reachesOf (listedReaches (r low)) (listedReaches (r high)) p i ≡ r p i
     each low i h = ap natAbs (reach-listed (r low) i h)
     each high i h = ap natAbs (reach-listed (r high) i h)
 
 -- ---- the table's own
 module _ (t : List ℤ) (g : good cumulus t ≡ true) where
-  reach-taken : (p : Piece) (i : ℕ) → i < 5 → reach (taken t) p i ≡ reach t p i
+  reach-taken : (p : Piece) (i : ℕ) → i < cumulus .variables → reach (taken t) p i ≡ reach t p i
   reach-taken p i h = reach-same (same t) p i h
 
   pub own-reaching : (p : Piece) → Reaching (listedReaches (reach (taken t) p))

@@ -6,8 +6,8 @@ use Prim.Native.Nat.{ℕ, _+_, _*_, _≤_, _<_, max}
 use native.Mathlib.Nat as N
 use native.Mathlib.Omega.{arith}
 use borrow.Author.Needs.{needs, sfits-of}
-use lib.IntN.{ℤ, pos, natAbs, _+ℤ_, +ℤ-idr}
-use lib.ListN.{length, take, drop, getD, length-take}
+use lib.IntN.{ℤ, natAbs, _+ℤ_, +ℤ-idr}
+use lib.ListN.{length, take, drop, length-take}
 use mir.Syntax.{w64}
 use mir.Val.{SFits, toZ, ofZ}
 use mir.Facts.{toZ-ofZ}
@@ -58,16 +58,16 @@ module _ (t : List ℤ) (b n : ℕ) (state : List ℤ) (ready : Valued t b n sta
   long = omega (arith, ready .whole, ready .block)
 
   -- a reading, as the code holds it
-  bits : (i : ℕ) → i < 5 → toZ w64 (ofZ w64 (x i)) ≡ x i
+  bits : (i : ℕ) → i < cumulus .variables → toZ w64 (ofZ w64 (x i)) ≡ x i
   bits i h = toZ-ofZ (natAbs-sfits (x i) (omega (arith, ready .near i h)))
 
-  in-bits : (i j : ℕ) → i < 5 → j < 5 → (l : List ℤ) → Readable l (x i) (x j) → Readable l (toZ w64 (ofZ w64 (x i))) (toZ w64 (ofZ w64 (x j)))
+  in-bits : (i j : ℕ) → i < cumulus .variables → j < cumulus .variables → (l : List ℤ) → Readable l (x i) (x j) → Readable l (toZ w64 (ofZ w64 (x i))) (toZ w64 (ofZ w64 (x j)))
   in-bits i j a b l h = subst₂ (λ y z. Readable l y z) (sym (bits i a)) (sym (bits j b)) h
 
-  out-bits : (i j : ℕ) → i < 5 → j < 5 → (l : List ℤ) (z : ℤ) → SFits w64 z → z ≡ value l (toZ w64 (ofZ w64 (x i))) (toZ w64 (ofZ w64 (x j))) → toZ w64 (ofZ w64 z) ≡ value l (x i) (x j)
+  out-bits : (i j : ℕ) → i < cumulus .variables → j < cumulus .variables → (l : List ℤ) (z : ℤ) → SFits w64 z → z ≡ value l (toZ w64 (ofZ w64 (x i))) (toZ w64 (ofZ w64 (x j))) → toZ w64 (ofZ w64 z) ≡ value l (x i) (x j)
   out-bits i j a b l z f e = toZ-ofZ f ∙ e ∙ ap₂ (value l) (bits i a) (bits j b)
 
-  readable : (i j a m : ℕ) → i < 5 → j < 5 → m ≤ sideSize → weight (take m (drop a t)) (r i) (r j) ≤ cap → Readable (take m (drop a t)) (x i) (x j)
+  readable : (i j a m : ℕ) → i < cumulus .variables → j < cumulus .variables → m ≤ sideSize → weight (take m (drop a t)) (r i) (r j) ≤ cap → Readable (take m (drop a t)) (x i) (x j)
   unfolding below
   readable i j a m p q h l = record { few = omega (arith, length-take m (drop a t)); near-x = ready .near i p; near-y = ready .near j q; light = l }
 

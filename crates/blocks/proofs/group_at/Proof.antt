@@ -1,10 +1,8 @@
 -- `blocks::group_at` meets its contract: the part that is lent on is the group. Assumes nothing.
-use mathlib.Core.Path.{_≡_, sym, _∙_, ap, subst₃}
-use mathlib.Core.List.{List}
+use mathlib.Core.Path.{_≡_, sym, _∙_, subst₃}
 use Prim.Native.Nat.{ℕ, _+_, _-_}
 use native.Mathlib.Omega.{arith}
 use borrow.Author.Needs.{needs, sfits-of}
-use lib.IntN.{ℤ}
 use lib.ListN.{take, drop}
 use mir.Facts.{toZ-ofZ}
 use Rattle.polynomials.specs.Group.{value}

@@ -1,9 +1,7 @@
 -- Controls of a group's value, weight and moves, worked by hand.
 use mathlib.Core.Path.{_≡_, refl}
 use mathlib.Core.List.{List, [], _∷_}
-use Prim.Native.Nat.{ℕ}
 use lib.IntN.{ℤ, pos, negsuc, pow, one}
-use Rattle.polynomials.specs.Numbers.{ints}
 use Rattle.polynomials.specs.Sum.{sum, listed}
 use Rattle.polynomials.specs.Order.{powers, below}
 use Rattle.polynomials.specs.Binomial.{choose}

@@ -1,6 +1,6 @@
 -- Controls of the cap: the sum that meets it is within, one more has passed it.
 use mathlib.Core.Path.{_≡_, refl}
-use Prim.Native.Nat.{ℕ, _*_, _^_, _<_}
+use Prim.Native.Nat.{_*_, _^_, _<_}
 use native.Mathlib.Omega.{arith}
 use Rattle.polynomials.specs.Limits.{cap, farthest, against}
 use Rattle.polynomials.specs.declared.Weighed.the-variants.{Within, Passed}

@@ -1,6 +1,6 @@
 -- `polynomials::move_group` meets its contract. The loop's invariant: `w` are the powers at the place `at`, and the places before it hold the moved numbers.
 -- Assumes nothing.
-use mathlib.Core.Path.{_≡_, refl, sym, _∙_, ap, ap₂, subst}
+use mathlib.Core.Path.{_≡_, refl, sym, _∙_, ap}
 use mathlib.Core.List.{List}
 use Prim.Native.Nat.{ℕ, _+_, _-_, _≤_, _<_}
 use native.Mathlib.Omega.{arith}
@@ -12,10 +12,9 @@ use mir.Val.{toZ, ofZ}
 use mir.Facts.{toZ-ofZ}
 use Rattle.polynomials.specs.Numbers.{ints}
 use Rattle.polynomials.specs.Sum.{listed}
-use Rattle.polynomials.specs.Order.{powers, below, place}
+use Rattle.polynomials.specs.Order.{powers, place}
 use Rattle.polynomials.specs.Binomial.{shiftIn}
 use Rattle.polynomials.specs.Group.{movedNumber, replaced}
-use Rattle.polynomials.specs.Ready.{Movable}
 use Rattle.polynomials.specs.declared.Powers.{Powers}
 use Rattle.polynomials.specs.declared.Variable.{Variable}
 use Rattle.polynomials.proofs.Places.{place-powers, powers-more}

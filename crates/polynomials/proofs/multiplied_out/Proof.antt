@@ -1,6 +1,6 @@
 -- `polynomials::multiplied_out` meets its contract, row by row. Assumes nothing.
-use mathlib.Core.Path.{_≡_, _∙_, ap}
-use mathlib.Core.List.{List, [], _∷_}
+use mathlib.Core.Path.{_∙_, ap}
+use mathlib.Core.List.{[], _∷_}
 use borrow.Author.Needs.{needs}
 use mir.Facts.{toZ-ofZ}
 use Rattle.polynomials.specs.Sum.{listed}

@@ -8,7 +8,7 @@ use mir.Syntax.{w64}
 use mir.Val.{SFits, toZ, ofZ}
 use mir.Facts.{toZ-ofZ}
 use Rattle.whole.proofs.Ring.{pow-zero, pow-one, pow-suc}
-use Rattle.whole.proofs.Magnitudes.{Within, within-pow}
+use Rattle.whole.proofs.Magnitudes.{within-pow}
 use Rattle.whole.proofs.Machine.{within-sfits, op-bits, op-back}
 use Rattle.polynomials.specs.Limits.{farthest}
 use Rattle.polynomials.specs.Sum.{listed}

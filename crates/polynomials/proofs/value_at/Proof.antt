@@ -1,8 +1,8 @@
 -- `polynomials::value_at` meets its contract. The loop's invariant: `w` are the powers at the place `at`, and the sum is that of the terms before it.
 -- The weight bounds each product and each sum. Assumes nothing.
-use mathlib.Core.Path.{_≡_, refl, sym, _∙_, ap, ap₂, subst}
+use mathlib.Core.Path.{_≡_, sym, _∙_, ap, ap₂, subst}
 use mathlib.Core.List.{List}
-use Prim.Native.Nat.{ℕ, suc, _+_, _*_, _-_, _≤_, _<_, max}
+use Prim.Native.Nat.{ℕ, _+_, _-_, _≤_, _<_, max}
 use native.Mathlib.Nat as N
 use native.Mathlib.Numerals.{add-one}
 use native.Mathlib.Omega.{arith}
@@ -15,9 +15,9 @@ use mir.Facts.{toZ-ofZ}
 use Rattle.whole.proofs.Ring.{pow-zero, *ℤ-unit}
 use Rattle.whole.proofs.Machine.{natAbs-sfits, op-bits, op-back}
 use Rattle.polynomials.specs.Numbers.{ints}
-use Rattle.polynomials.specs.Sum.{sum as total, listed}
-use Rattle.polynomials.specs.Order.{powers, below}
-use Rattle.polynomials.specs.Group.{term, evaluated, value}
+use Rattle.polynomials.specs.Sum.{sum as total}
+use Rattle.polynomials.specs.Order.{powers}
+use Rattle.polynomials.specs.Group.{term, evaluated}
 use Rattle.polynomials.specs.Limits.{cap}
 use Rattle.polynomials.specs.Ready.{Readable}
 use Rattle.polynomials.specs.declared.Powers.{Powers}

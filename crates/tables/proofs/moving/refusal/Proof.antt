@@ -85,7 +85,7 @@ module _ (c : tie.Else3) where
   in-range : allInRange cumulus (there .moved .result .numbers) ≡ true
   in-range = ap (allInRange cumulus) (moved-is there) ∙ limits-in-range
 
-  variable-in : i from < 5
+  variable-in : i from < cumulus .variables
   variable-in = from .pre .1 .0
 
   limits-good : good cumulus (t from) ≡ true

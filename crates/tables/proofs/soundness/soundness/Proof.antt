@@ -1,21 +1,19 @@
 -- `tables::soundness::soundness` meets its contract: the limits taken from the table tell what the table's tell. Assumes nothing.
-use mathlib.Core.Path.{_≡_, refl, sym, _∙_, ap, subst}
-use mathlib.Core.Bool.{Bool, true, false, not}
-use mathlib.Core.List.{List, [], _∷_}
-use Prim.Native.Nat.{ℕ, _≤_}
+use mathlib.Core.Path.{_≡_, sym, _∙_, ap, subst}
+use mathlib.Core.Bool.{true}
+use mathlib.Core.List.{List, []}
 use native.Mathlib.Omega.{arith}
 use borrow.Author.Tests.{not-true, not-false}
 use lib.IntN.{ℤ}
-use lib.ListN.{length}
 use Rattle.layout.specs.Shape.{cumulus, kindsLength}
 use Rattle.polynomials.specs.Order.{below}
 use Rattle.layout.specs.Limits.{allInRange, good}
-use Rattle.layout.specs.Blocks.{low, high, piece}
+use Rattle.layout.specs.Blocks.{low, high}
 use Rattle.layout.specs.Sound.{reach, withinCap, light}
-use Rattle.layout.specs.Refusals.{first, _when_, badLimits, tooHeavy}
+use Rattle.layout.specs.Refusals.{badLimits, tooHeavy}
 use Rattle.layout.proofs.LimitLaws.{good-facts}
 use Rattle.layout.proofs.Refused.{first-skip, first-hit}
-use Rattle.weights.specs.Reaches.{reachesOf, Reaching, Checkable}
+use Rattle.weights.specs.Reaches.{reachesOf, Reaching}
 use Rattle.tables.proofs.Taken.{first-nothing, taken, good-taken, range-taken, listedReaches, own-reaching, light-taken}
 use Rattle.tables.proofs.soundness.soundness.Statement.{statement}
 use Rattle.tables.proofs.soundness.soundness.Tie as tie
