@@ -90,7 +90,7 @@ fn read(table: &[i64], state: [i64; VARIABLES], out: &mut [i64]) -> u64 {
 
 fn moved(table: &[i64], variable: usize, shift: i64, out: &mut [i64]) -> u64 {
     fill(out);
-    tables::moving::move_datum(table, variable, shift, out)
+    moving::move_datum(table, variable, shift, out)
 }
 
 // The six values, or whether a refusal left the output as it was.

@@ -68,7 +68,7 @@ pub fn move_alpha(t: &[i64; TABLE], k: usize, count: &mut u64) {
 // The numbers of checked value 8.
 pub fn moved_place(t: &[i64; TABLE], k: usize, count: &mut u64) {
     let mut moved = [0i64; TABLE];
-    tables::moving::move_datum(t, 0, 100, &mut moved);
+    moving::move_datum(t, 0, 100, &mut moved);
     place(&moved, k, count);
 }
 

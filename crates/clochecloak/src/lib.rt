@@ -43,7 +43,7 @@ pub extern "C" fn clochecloak_move(
     ensures number { λ r. ⌜ r ≡ moveNumber cumulus (now (table .entry)) variable shift (now (out .entry)) ⌝ }
     ensures output { λ r. ⌜ now (out .exit) ≡ moveOutput cumulus (now (table .entry)) variable shift (now (out .entry)) ⌝ }
 {
-    tables::moving::move_datum(table, variable, shift, out)
+    moving::move_datum(table, variable, shift, out)
 }
 
 #[no_mangle]

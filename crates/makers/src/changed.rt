@@ -14,7 +14,7 @@ pub fn nudged(draws: &mut u64, t: &[i64; TABLE]) -> [i64; TABLE] {
     let v = below(draws, VARIABLES);
     let shift = take(draws, -100, 100);
     let mut out = [0i64; TABLE];
-    tables::moving::move_datum(t, v, shift, &mut out);
+    moving::move_datum(t, v, shift, &mut out);
     out
 }
 

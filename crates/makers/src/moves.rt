@@ -14,7 +14,7 @@ pub fn with_sign(is_negative: bool, size: u64) -> i64 {
 
 fn is_accepted(t: &[i64; TABLE], v: usize, shift: i64) -> bool {
     let mut out = [0i64; TABLE];
-    tables::moving::move_datum(t, v, shift, &mut out) == DONE
+    moving::move_datum(t, v, shift, &mut out) == DONE
 }
 
 // The largest size of an accepted move, by halving: a move by 4001 pushes any good limit out, and acceptance does not come back

@@ -34,6 +34,7 @@ use Rattle.weights.proofs as weights
 use Rattle.quick.proofs as quick
 use Rattle.blocks.proofs as blocks
 use Rattle.tables.proofs as tables
+use Rattle.moving.proofs as moving
 use Rattle.cumulus.proofs as cumulus
 use Rattle.rounding.proofs as rounding
 use Rattle.door.proofs as door
@@ -177,7 +178,7 @@ read-known-tight κs a o p = tight o p (search same)
 pub read-tight : Tight tables.reading.read.ended tables.reading.read.Reads.Post
 read-tight κs a o p = tight o p (search same)
 
-pub move-datum-tight : Tight tables.moving.move_datum.ended tables.moving.move_datum.Reads.Post
+pub move-datum-tight : Tight moving.move_datum.ended moving.move_datum.Reads.Post
 move-datum-tight κs a o p = tight o p (search same)
 
 -- ════ cumulus

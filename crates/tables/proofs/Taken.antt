@@ -1,5 +1,5 @@
 -- The limits as the code takes them from a Cumulus One table, and the reaches it works out from them.
---   good-taken, range-taken, outside-taken, cut-taken, moved-taken   the limits taken tell what the table's tell
+--   good-taken, range-taken, outside-taken, cut-taken   the limits taken tell what the table's tell
 --   reaching          reaches that are listed so can be weighed with
 --   checkable         and so can the table
 --   light-taken       the weight check at them is the table's
@@ -21,8 +21,7 @@ use Rattle.layout.specs.Blocks.{Piece, low, high}
 use Rattle.layout.specs.Sound.{reach, withinCap, light}
 use Rattle.layout.specs.Refusals.{first, _when_, outside}
 use Rattle.layout.specs.Reading.{inside}
-use Rattle.layout.specs.Moving.{movedLimits}
-use Rattle.layout.proofs.LimitLaws.{SameLimits, limits-take, good-same, allInRange-same, reach-same, inside-same, cut-same, movedLimits-same, good-facts}
+use Rattle.layout.proofs.LimitLaws.{SameLimits, limits-take, good-same, allInRange-same, reach-same, inside-same, cut-same, good-facts}
 use Rattle.layout.proofs.Reaches.{reach-one, reach-within}
 use Rattle.weights.specs.Reaches.{reachesOf, Reaching}
 use Rattle.blocks.proofs.Agreed.{withinCap-agreed}
@@ -46,9 +45,6 @@ range-taken t = allInRange-same (same t)
 
 pub cut-taken : (t : List ℤ) → cut (taken t) ≡ cut t
 cut-taken t = cut-same (same t) (omega arith)
-
-pub moved-taken : (i : ℕ) (s : ℤ) (t : List ℤ) → movedLimits cumulus i s (taken t) ≡ movedLimits cumulus i s t
-moved-taken i s t = movedLimits-same (same t) i s
 
 pub outside-taken : (t : List ℤ) (x : ℕ → ℤ) → first (listed (cumulus .variables) (λ i. outside i when not (inside (taken t) x i))) ≡ first (listed (cumulus .variables) (λ i. outside i when not (inside t x i)))
 outside-taken t x = ap first (listed-ext (0 when true) (cumulus .variables) _ _ (λ i h. ap (λ b. outside i when not b) (inside-same (same t) x i h)))

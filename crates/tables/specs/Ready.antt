@@ -1,18 +1,16 @@
--- What the inner functions of the operations ask of their callers.
+-- What the inner functions of the reading ask of their callers.
 use mathlib.Core.Path.{_≡_}
 use mathlib.Core.Bool.{true, not}
 use mathlib.Core.List.{List, [], _∷_}
-use Prim.Native.Nat.{ℕ, _≤_, _<_}
+use Prim.Native.Nat.{ℕ, _<_}
 use lib.Dec.{eqb}
-use lib.IntN.{ℤ, pos, natAbs}
-use lib.ListN.{length, getD}
-use Rattle.polynomials.specs.Limits.{farthest}
+use lib.IntN.{ℤ}
+use lib.ListN.{length}
 use Rattle.blocks.specs.Ready.{Valued}
 use Rattle.layout.specs.Shape.{tableLength, cumulus}
-use Rattle.layout.specs.Limits.{allInRange, good}
+use Rattle.layout.specs.Limits.{good}
 use Rattle.layout.specs.Sound.{light}
 use Rattle.layout.specs.Refusals.{Refusal, _when_, first, wrongTable, badLimits, tooHeavy}
-use Rattle.layout.specs.Moving.{movedLimits, moveLight}
 
 -- to read every block's coefficient into an output
 pub record AllValued (t : List ℤ) (n : ℕ) (x out : List ℤ) : Type 0 where
@@ -32,19 +30,3 @@ pub record SoundRead (t out : List ℤ) : Type 0 where
   pub room : length out ≡ cumulus .blocks
   pub limits : good cumulus t ≡ true
   pub weights : light cumulus t ≡ true
-
--- to make the reach of variable i longer by the size of s
-pub record Lengthened (r : List ℤ) (i : ℕ) (s : ℤ) : Type 0 where
-  pub five : length r ≡ cumulus .variables
-  pub variable : i < cumulus .variables
-  pub reach : natAbs (getD r i (pos 0)) ≤ farthest
-  pub near : natAbs s ≤ farthest
-
--- to write the moved table into an output: the move meets the limits and the weight rule
-pub record Moveable (t : List ℤ) (i : ℕ) (s : ℤ) (out : List ℤ) : Type 0 where
-  pub whole : length t ≡ tableLength cumulus
-  pub room : length out ≡ tableLength cumulus
-  pub variable : i < cumulus .variables
-  pub limits : good cumulus t ≡ true
-  pub range : allInRange cumulus (movedLimits cumulus i s t) ≡ true
-  pub light : moveLight cumulus i s t ≡ true

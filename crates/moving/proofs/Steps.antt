@@ -1,4 +1,6 @@
 -- What the code meets when it asks whether the datum of a variable may be moved.
+--   moved-taken           the limits taken from a table move as the table's
+--   move-unsound          the refusal of an unsound table is the move's
 --   past-low, past-high   a shift past 4000 either way is larger than that
 --   longer-listed         listed reaches with one of them longer are the longer reaches, listed
 --   move-far              a move by more than 4000 takes a limit out of its range
@@ -13,7 +15,7 @@ use native.Mathlib.Omega.{arith}
 use borrow.Author.Tests.{eqb-true, eqb-false}
 use lib.Dec.{eqb}
 use lib.IntN.{ℤ, pos, negsuc, natAbs, _+ℤ_}
-use lib.ListN.{getD, set, length-set}
+use lib.ListN.{length, getD, set, length-set}
 use lib.Seq.{getD-set-same, getD-set-other}
 use lib.Signed.{_<ℤ_}
 use Rattle.whole.proofs.Magnitudes.{natAbs-is}
@@ -21,16 +23,29 @@ use Rattle.whole.proofs.Order.{lt-out}
 use Rattle.polynomials.specs.Groups.{longer}
 use Rattle.polynomials.specs.Limits.{farthest}
 use Rattle.polynomials.proofs.Listed.{length-listed, listed-is}
-use Rattle.layout.specs.Shape.{cumulus}
+use Rattle.layout.specs.Shape.{tableLength, cumulus}
 use Rattle.layout.specs.Limits.{allInRange, good}
 use Rattle.layout.specs.Blocks.{Piece}
 use Rattle.layout.specs.Sound.{reach}
-use Rattle.layout.specs.Moving.{movedLimits, moveReach}
+use Rattle.layout.specs.Refusals.{first}
+use Rattle.layout.specs.Moving.{movedLimits, moveReach, moveNumber, moveOutput}
+use Rattle.layout.proofs.LimitLaws.{limits-take, movedLimits-same}
+use Rattle.layout.proofs.Refused.{move-asked, move-kept}
 use Rattle.layout.proofs.Reaches.{reach-one}
 use Rattle.layout.proofs.SoundMoved.{move-within, moved-reach-within}
 use Rattle.weights.specs.Reaches.{Reaching}
-use Rattle.tables.specs.Ready.{Lengthened}
-use Rattle.tables.proofs.Taken.{listedReaches, reach-listed, reaching}
+use Rattle.moving.specs.Ready.{Lengthened}
+use Rattle.tables.proofs.Taken.{taken, listedReaches, reach-listed, reaching}
+use Rattle.tables.proofs.Steps.{first-apart, positive, unsound}
+
+pub moved-taken : (i : ℕ) (s : ℤ) (t : List ℤ) → movedLimits cumulus i s (taken t) ≡ movedLimits cumulus i s t
+moved-taken i s t = movedLimits-same (limits-take cumulus t) i s
+
+module _ (t : List ℤ) (i : ℕ) (s : ℤ) (out : List ℤ) (a : length t ≡ tableLength cumulus) (b : length out ≡ tableLength cumulus) (v : i < cumulus .variables) where
+  pub move-unsound : (n : ℕ) → n ≡ first (unsound t) → (n ≡ 0 → ⊥) → (n ≡ moveNumber cumulus t i s out) × (out ≡ moveOutput cumulus t i s out)
+  move-unsound n e h =
+      let number : moveNumber cumulus t i s out ≡ n = move-asked cumulus t i s out a b v ∙ first-apart (unsound t) _ (λ z. h (e ∙ z)) ∙ sym e in
+      (sym number, sym (move-kept cumulus t i s out number (positive h)))
 
 pub past-low : {s : ℤ} → s <ℤ negsuc 3999 → 4000 < natAbs s
 past-low {s} h = omega (arith, lt-out h, natAbs-is s)

@@ -8,9 +8,9 @@ ghost use lib.ListN.{length, drop, getD, set};
 ghost use Rattle.layout.specs.Shape.{cumulus, limitsLength, tableLength};
 ghost use Rattle.layout.specs.Limits.{allInRange, good};
 ghost use Rattle.layout.specs.Moving.{movedLimits, movedTable, moveLight, moveNumber, moveOutput};
+ghost use Rattle.layout.specs.Accepted.{MoveAccepted};
 ghost use Rattle.layout.specs.Refusals.{first, _when_, limitPast, moveTooHeavy};
-ghost use Rattle.tables.specs.Ready.{Lengthened, Moveable};
-use super::soundness::soundness;
+ghost use Rattle.moving.specs.Ready.{Lengthened};
 use blocks::move_block;
 use layout::BLOCK;
 use layout::BLOCKS;
@@ -26,6 +26,7 @@ use layout::refusals::WRONG_TABLE;
 use limits::Limits;
 use polynomials::multiplied_out;
 use quick::within_cap;
+use tables::soundness::soundness;
 
 // No shift from one limit within -2000..2000 to another is longer.
 const LONGEST: i64 = 4000;
@@ -81,7 +82,7 @@ fn refusal(table: &[i64], variable: usize, shift: i64) -> u64
 
 // The moved table, written into `out`: the limits, then each block into the part that belongs to it.
 fn write_moved(table: &[i64], variable: usize, shift: i64, out: &mut [i64])
-    requires { ⌜ Moveable (now table) variable shift (now out) ⌝ }
+    requires { ⌜ MoveAccepted cumulus (now table) variable shift (now out) ⌝ }
     ensures { λ r. ⌜ now (out .exit) ≡ movedTable cumulus variable shift (now (table .entry)) ⌝ }
 {
     let limits = Limits::of(table).moved(variable, shift);

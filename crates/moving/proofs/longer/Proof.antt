@@ -1,4 +1,4 @@
--- `tables::moving::longer` meets its contract: a reach and the size of a shift are both small. Assumes nothing.
+-- `moving::longer` meets its contract: a reach and the size of a shift are both small. Assumes nothing.
 use mathlib.Core.Path.{_≡_, _∙_, ap}
 use native.Mathlib.Omega.{arith}
 use borrow.Author.Needs.{needs}
@@ -9,8 +9,8 @@ use mir.Val.{SFits, toZ, ofZ}
 use mir.Facts.{toZ-ofZ}
 use Rattle.whole.proofs.Magnitudes.{natAbs-+}
 use Rattle.whole.proofs.Machine.{natAbs-sfits, op-bits, op-back}
-use Rattle.tables.proofs.moving.longer.Statement.{statement}
-use Rattle.tables.proofs.moving.longer.Tie as tie
+use Rattle.moving.proofs.longer.Statement.{statement}
+use Rattle.moving.proofs.longer.Tie as tie
 
 module _ (c : tie.After-magnitude) where
   abbrev start : tie.Start

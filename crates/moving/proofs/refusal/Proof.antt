@@ -1,4 +1,4 @@
--- `tables::moving::refusal` meets its contract: a shift past 4000 takes a limit out of its range; the longer reaches are those of the weight rule.
+-- `moving::refusal` meets its contract: a shift past 4000 takes a limit out of its range; the longer reaches are those of the weight rule.
 -- Assumes nothing.
 use mathlib.Core.Path.{_≡_, sym, _∙_, ap, ap₂, subst}
 use mathlib.Core.Bool.{true, false}
@@ -23,10 +23,10 @@ use Rattle.layout.specs.Refusals.{limitPast, moveTooHeavy}
 use Rattle.layout.proofs.LimitLaws.{good-facts}
 use Rattle.layout.proofs.Refused.{first-skip, first-hit}
 use Rattle.weights.specs.Reaches.{reachesOf, Reaching}
-use Rattle.tables.proofs.Taken.{first-nothing, range-taken, moved-taken, listedReaches, light-listed}
-use Rattle.tables.proofs.MoveSteps.{past-low, past-high, longer-listed, move-far, lengthened, move-reaching}
-use Rattle.tables.proofs.moving.refusal.Statement.{statement}
-use Rattle.tables.proofs.moving.refusal.Tie as tie
+use Rattle.tables.proofs.Taken.{first-nothing, range-taken, listedReaches, light-listed}
+use Rattle.moving.proofs.Steps.{moved-taken, past-low, past-high, longer-listed, move-far, lengthened, move-reaching}
+use Rattle.moving.proofs.refusal.Statement.{statement}
+use Rattle.moving.proofs.refusal.Tie as tie
 
 -- the table, the variable and the shift
 module _ (c : tie.Start) where

@@ -1,0 +1,2 @@
+-- What the inner functions of the move ask of their callers.
+pub mod Ready
