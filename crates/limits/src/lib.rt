@@ -20,7 +20,7 @@ ghost use Rattle.layout.specs.Reading.{readings, inside};
 ghost use Rattle.layout.specs.Moving.{owner, movedLimit, movedLimits};
 
 // The greatest limit that is in range.
-const MOST: i64 = 2000;
+pub const MOST: i64 = 2000;
 
 // And the least.
 const LEAST: i64 = -MOST;

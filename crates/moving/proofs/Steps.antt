@@ -1,9 +1,9 @@
 -- What the code meets when it asks whether the datum of a variable may be moved.
 --   moved-taken           the limits taken from a table move as the table's
 --   move-unsound          the refusal of an unsound table is the move's
---   past-low, past-high   a shift past 4000 either way is larger than that
+--   past-low, past-high   a shift past the longest either way is longer
 --   longer-listed         listed reaches with one of them longer are the longer reaches, listed
---   move-far              a move by more than 4000 takes a limit out of its range
+--   move-far              a move by more than the longest shift takes a limit out of its range
 --   lengthened            the moved reaches can be made longer by the size of the shift
 --   move-reaching         and the longer ones weighed with
 use mathlib.Core.Path.{_≡_, refl, sym, _∙_, ap, subst}
@@ -14,7 +14,7 @@ use native.Mathlib.Nat as N
 use native.Mathlib.Omega.{arith}
 use borrow.Author.Tests.{eqb-true, eqb-false}
 use lib.Dec.{eqb}
-use lib.IntN.{ℤ, pos, negsuc, natAbs, _+ℤ_}
+use lib.IntN.{ℤ, pos, negℤ, natAbs, _+ℤ_}
 use lib.ListN.{length, getD, set, length-set}
 use lib.Seq.{getD-set-same, getD-set-other}
 use lib.Signed.{_<ℤ_}
@@ -24,7 +24,7 @@ use Rattle.polynomials.specs.Groups.{longer}
 use Rattle.polynomials.specs.Limits.{farthest}
 use Rattle.polynomials.proofs.Listed.{length-listed, listed-is}
 use Rattle.layout.specs.Shape.{tableLength, cumulus}
-use Rattle.layout.specs.Limits.{allInRange, good}
+use Rattle.layout.specs.Limits.{farthestLimit, longestShift, allInRange, good}
 use Rattle.layout.specs.Blocks.{Piece}
 use Rattle.layout.specs.Sound.{reach}
 use Rattle.layout.specs.Refusals.{first}
@@ -47,10 +47,10 @@ module _ (t : List ℤ) (i : ℕ) (s : ℤ) (out : List ℤ) (a : length t ≡ t
       let number : moveNumber cumulus t i s out ≡ n = move-asked cumulus t i s out a b v ∙ first-apart (unsound t) _ (λ z. h (e ∙ z)) ∙ sym e in
       (sym number, sym (move-kept cumulus t i s out number (positive h)))
 
-pub past-low : {s : ℤ} → s <ℤ negsuc 3999 → 4000 < natAbs s
+pub past-low : {s : ℤ} → s <ℤ negℤ (pos longestShift) → longestShift < natAbs s
 past-low {s} h = omega (arith, lt-out h, natAbs-is s)
 
-pub past-high : {s : ℤ} → pos 4000 <ℤ s → 4000 < natAbs s
+pub past-high : {s : ℤ} → pos longestShift <ℤ s → longestShift < natAbs s
 past-high {s} h = omega (arith, lt-out h, natAbs-is s)
 
 not-so : {b : Bool} → (b ≡ true → ⊥) → b ≡ false
@@ -89,15 +89,15 @@ longer-listed r i {s} h e f = (λ j. set (e j) i (getD (e j) i (pos 0) +ℤ pos 
 
 -- ---- a move of a table with good limits
 module _ (t : List ℤ) (i : ℕ) (s : ℤ) (h : i < cumulus .variables) (g : good cumulus t ≡ true) where
-  pub move-far : 4000 < natAbs s → allInRange cumulus (movedLimits cumulus i s t) ≡ false
-  move-far k = not-so (λ e. let near : natAbs s ≤ 4000 = move-within cumulus i s t h g e in omega arith)
+  pub move-far : longestShift < natAbs s → allInRange cumulus (movedLimits cumulus i s t) ≡ false
+  move-far k = not-so (λ e. let near : natAbs s ≤ longestShift = move-within cumulus i s t h g e in omega arith)
 
   -- that keeps them in range
   module _ (e : allInRange cumulus (movedLimits cumulus i s t) ≡ true) (p : Piece) where
     abbrev moved : ℕ → ℕ
     moved = reach (movedLimits cumulus i s t) p
 
-    moved-within : (k : ℕ) → k < cumulus .variables → moved k ≤ 2000
+    moved-within : (k : ℕ) → k < cumulus .variables → moved k ≤ farthestLimit
     moved-within k l = moved-reach-within cumulus i s t (omega arith) e g p k l
 
     pub lengthened : Lengthened (listedReaches moved) i s

@@ -24,12 +24,13 @@ use layout::refusals::NO_VARIABLE;
 use layout::refusals::WRONG_OUTPUT;
 use layout::refusals::WRONG_TABLE;
 use limits::Limits;
+use limits::MOST;
 use polynomials::multiplied_out;
 use quick::within_cap;
 use tables::soundness::soundness;
 
-// No shift from one limit within -2000..2000 to another is longer.
-const LONGEST: i64 = 4000;
+// No shift from one limit in range to another is longer.
+const LONGEST: i64 = MOST + MOST;
 
 // The reaches with that of one variable longer by the size of the shift.
 fn longer(reaches: [i64; VARIABLES], variable: usize, shift: i64) -> [i64; VARIABLES]

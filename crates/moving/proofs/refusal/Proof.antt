@@ -1,4 +1,4 @@
--- `moving::refusal` meets its contract: a shift past 4000 takes a limit out of its range; the longer reaches are those of the weight rule.
+-- `moving::refusal` meets its contract: a shift past the longest takes a limit out of its range; the longer reaches are those of the weight rule.
 -- Assumes nothing.
 use mathlib.Core.Path.{_≡_, sym, _∙_, ap, ap₂, subst}
 use mathlib.Core.Bool.{true, false}
@@ -7,7 +7,7 @@ use Prim.Native.Nat.{ℕ, _≤_, _<_}
 use native.Mathlib.Omega.{arith}
 use borrow.Author.Needs.{needs}
 use borrow.Author.Tests.{not-true, not-false}
-use lib.IntN.{ℤ, pos, negsuc, natAbs}
+use lib.IntN.{ℤ, pos, negℤ, natAbs}
 use mir.Syntax.{w64}
 use mir.Val.{SFits, toZ, ofZ}
 use mir.Facts.{toZ-ofZ}
@@ -15,7 +15,7 @@ use Rattle.whole.proofs.Machine.{natAbs-sfits, lt-taken, lt-left}
 use Rattle.whole.proofs.Order.{from-two}
 use Rattle.polynomials.specs.Order.{below}
 use Rattle.layout.specs.Shape.{cumulus, kindsLength}
-use Rattle.layout.specs.Limits.{allInRange, good}
+use Rattle.layout.specs.Limits.{longestShift, allInRange, good}
 use Rattle.layout.specs.Blocks.{low, high}
 use Rattle.layout.specs.Sound.{reach, withinCap}
 use Rattle.layout.specs.Moving.{movedLimits, moveReach, moveLight}
@@ -45,17 +45,17 @@ module _ (c : tie.Start) where
   shift-is : toZ w64 (ofZ w64 s) ≡ s
   shift-is = toZ-ofZ (c .fits .shift)
 
-  far : 4000 < natAbs s → allInRange cumulus limits ≡ false
+  far : longestShift < natAbs s → allInRange cumulus limits ≡ false
   far = move-far t i s (c .pre .1 .0) (c .pre .1 .1)
 
--- 4000 either way
-least-fits : SFits w64 (negsuc 3999)
-least-fits = natAbs-sfits (negsuc 3999) (omega arith)
+-- the longest shift, either way
+least-fits : SFits w64 (negℤ (pos longestShift))
+least-fits = natAbs-sfits (negℤ (pos longestShift)) (omega arith)
 
-most-fits : SFits w64 (pos 4000)
-most-fits = natAbs-sfits (pos 4000) (omega arith)
+most-fits : SFits w64 (pos longestShift)
+most-fits = natAbs-sfits (pos longestShift) (omega arith)
 
-near : (c : tie.Else2) → natAbs (s (c .before .before)) ≤ 4000
+near : (c : tie.Else2) → natAbs (s (c .before .before)) ≤ longestShift
 near c =
     let f = c .before .before .fits .shift in
     from-two (lt-left f least-fits (c .before .if1 .left)) (lt-left most-fits f (c .if2 .left))
