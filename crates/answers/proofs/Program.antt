@@ -1,10 +1,12 @@
 -- The answers to an input's lines as they end, and to the last line, are what the program writes for the input.
 --   answers-append, readings-append   two pieces are their bytes one after the other
+--   last-fits                         the last answer, where there is room for the longest
 --   whole                             the input in one piece
 use mathlib.Core.Path.{_≡_, refl, sym, ap, ap₂, _∙_}
 use mathlib.Core.Bool.{Bool, true, false, cond}
 use mathlib.Core.List.{List, [], _∷_, _++_, append-assoc, append-nil}
-use Prim.Native.Nat.{ℕ}
+use Prim.Native.Nat.{ℕ, _≤_}
+use borrow.Author.Tests.{le-ltb}
 use lib.Dec.{eqb}
 use lib.IntN.{ℤ}
 use Rattle.lines.specs.Line.{onto, parse}
@@ -12,8 +14,8 @@ use Rattle.lines.specs.State.{start, stepped, steppedBy, finished}
 use Rattle.lines.proofs.Parsed.{parsed}
 use Rattle.lines.proofs.Steps.{steps-append}
 use Rattle.answers.specs.declared.Reading.{Reading}
-use Rattle.answers.specs.Answers.{lineAnswer, linesOf, answered, program}
-use Rattle.answers.specs.Reading.{fresh, readingAfter, readingsAfter, answerAt, answersOf, lastAnswer}
+use Rattle.answers.specs.Answers.{lineAnswer, linesOf, answered, program, longest}
+use Rattle.answers.specs.Reading.{fresh, readingAfter, readingsAfter, answerAt, answersOf, lastAnswer, lastIn}
 
 -- ════ pieces
 pub readings-append : (r : Reading) (xs ys : List ℕ) → readingsAfter r (xs ++ ys) ≡ readingsAfter (readingsAfter r xs) ys
@@ -25,6 +27,9 @@ answers-append t r [] ys = refl
 answers-append t r (x ∷ xs) ys =
     ap (λ bs. answerAt t r x ++ bs) (answers-append t (readingAfter r x) xs ys)
     ∙ sym (append-assoc (answerAt t r x) (answersOf t (readingAfter r x) xs) (answersOf t (readingsAfter (readingAfter r x) xs) ys))
+
+pub last-fits : (t : List ℤ) (r : Reading) (n : ℕ) → longest ≤ n → lastIn t r n ≡ lastAnswer t r
+last-fits t r n h = ap (λ b. cond b [] (lastAnswer t r)) (le-ltb n longest h)
 
 -- ════ lines: bytes before the first of them
 ontoAll : List ℕ → List (List ℕ) → List (List ℕ)

@@ -3,7 +3,7 @@ use mathlib.Core.Path.{_≡_}
 use mathlib.Core.Bool.{true, false, cond}
 use mathlib.Core.List.{List, [], _∷_, _++_}
 use Prim.Native.Nat.{ℕ, _+_, _-_, _<_, _≤_}
-use lib.Dec.{eqb}
+use lib.Dec.{eqb, ltb}
 use lib.IntN.{ℤ}
 use lib.ListN.{length, take, drop, getD}
 use Rattle.lines.specs.State.{start, stepped, steppedBy, finished}
@@ -36,6 +36,10 @@ answersOf t r (b ∷ bs) = answerAt t r b ++ answersOf t (readingAfter r b) bs
 -- at the end of the input, a line that has a byte counts
 abbrev pub lastAnswer : List ℤ → Reading → List ℕ
 lastAnswer t r = cond (r .begun) (lineAnswer t (finished (r .line))) []
+
+-- what of it is written into an output of n bytes: all, or nothing where the longest answer would not fit
+abbrev pub lastIn : List ℤ → Reading → ℕ → List ℕ
+lastIn t r n = cond (ltb n longest) [] (lastAnswer t r)
 
 -- ════ a part of the input: from a place on up to another
 abbrev pub part : List ℕ → ℕ → ℕ → List ℕ

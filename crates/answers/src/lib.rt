@@ -5,7 +5,7 @@ ghost use lib.ListN.{length};
 ghost use Rattle.printing.specs.Spell.{written};
 ghost use Rattle.answers.specs.Answers.{spaced, numbered, lineAnswer, longestValues, longest};
 ghost use Rattle.tables.specs.Ready.{tableNumber};
-ghost use Rattle.answers.specs.Reading.{fresh, lastAnswer, Feeding, LinePart, Taking, Taken};
+ghost use Rattle.answers.specs.Reading.{fresh, lastIn, Feeding, LinePart, Taking, Taken};
 use layout::BLOCKS;
 use lines::Line;
 use lines::State;
@@ -187,16 +187,19 @@ pub fn feed(table: &[i64], reading: Reading, input: &[u8], out: &mut [u8]) -> Fe
     }
 }
 
-// At the end of the input: the answer to a last line that no newline ends, from the place `at` on; gives the place behind it.
-pub fn finish(table: &[i64], reading: Reading, out: &mut [u8], at: usize) -> usize
-    requires { ⌜ at + longest ≤ length (now out) ⌝ }
-    ensures place { λ r. ⌜ r ≡ at + length (lastAnswer (now (table .entry)) reading) ⌝ }
-    ensures output { λ r. ⌜ now (out .exit) ≡ written (now (out .entry)) at (lastAnswer (now (table .entry)) reading) ⌝ }
-    ensures room { λ r. ⌜ r ≤ at + longest ⌝ }
+// At the end of the input: writes the answer to a last line that no newline ends, and gives its length. Writes nothing where there is no
+// such line, or no room for the longest answer.
+pub fn finish(table: &[i64], reading: Reading, out: &mut [u8]) -> usize
+    ensures count { λ r. ⌜ r ≡ length (lastIn (now (table .entry)) reading (length (now (out .entry)))) ⌝ }
+    ensures output { λ r. ⌜ now (out .exit) ≡ written (now (out .entry)) 0 (lastIn (now (table .entry)) reading (length (now (out .entry)))) ⌝ }
+    ensures room { λ r. ⌜ r ≤ length (now (out .entry)) ⌝ }
 {
+    if out.len() < LONGEST {
+        return 0;
+    }
     let line = reading.line;
     if reading.begun {
-        return put_line(table, refusal_of(table), line.finish(), out, at);
+        return put_line(table, refusal_of(table), line.finish(), out, 0);
     }
-    at
+    0
 }

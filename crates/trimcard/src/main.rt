@@ -54,7 +54,7 @@ fn run(table: &[i64], buf: &mut [u8], out: &mut [u8])
         let got = libc::read(STDIN_FILENO, buf);
         let n = io::count(got, buf);
         if n == 0 {
-            let put = answers::finish(table, reading, out, 0);
+            let put = answers::finish(table, reading, out);
             io::write_all(STDOUT_FILENO, &out[from..put]);
             return;
         }
