@@ -6,12 +6,11 @@ whole-number arithmetic, so no machine float takes part in any answer.
 
 from fractions import Fraction
 
-from tables import (
-    DONE, FIRST_READING_OUTSIDE, TABLE_LENGTH, VARIABLE_COUNT,
-    WRONG_TABLE_LENGTH, all_coefficients, first_reading_outside, soundness,
-)
+import tables
+from tables import DONE, LIMITS_NOT_GOOD, READING_OUTSIDE, TOO_HEAVY, WRONG_TABLE_LENGTH
 
-FIRST_NOT_FINITE = 21               # alpha; the other variables follow
+NOT_FINITE = (21, 22, 23, 24, 25)   # by variable number
+DOOR_ORDER = (WRONG_TABLE_LENGTH, LIMITS_NOT_GOOD, TOO_HEAVY) + NOT_FINITE + READING_OUTSIDE
 ANSWER_UNIT = 10**17
 POSITIVE_ZERO = 0
 SIGN_BIT = 1 << 63
@@ -82,23 +81,35 @@ def answer_bits(number):
     return nearest_bits(Fraction(nearest_float_whole(number), ANSWER_UNIT))
 
 
-def refused(number, handed_back=POSITIVE_ZERO):
+def whole_reading(bits):
+    return round_half_even(exact_value(bits))
+
+
+def refused(number, handed_back):
     return number, [POSITIVE_ZERO] * 6, handed_back
+
+
+def six_answers(table, reading_bits):
+    readings = [whole_reading(bits) for bits in reading_bits]
+    return [answer_bits(number) for number in tables.all_coefficients(table, readings)]
+
+
+def handed_back_with(number, reading_bits):
+    """The reading as given where it is outside, else positive zero."""
+    return reading_bits[READING_OUTSIDE.index(number)] if number in READING_OUTSIDE else POSITIVE_ZERO
+
+
+def float_is_outside(table, variable, bits):
+    return tables.is_outside(table, variable, whole_reading(bits))
 
 
 def read_floats(table, reading_bits):
     """Give (number, six patterns, pattern of the reading handed back)."""
-    if len(table) != TABLE_LENGTH:
-        return refused(WRONG_TABLE_LENGTH)
-    trouble = soundness(table)
-    if trouble != DONE:
-        return refused(trouble)
-    for v in range(VARIABLE_COUNT):
-        if not is_finite(reading_bits[v]):
-            return refused(FIRST_NOT_FINITE + v)
-    readings = [round_half_even(exact_value(bits)) for bits in reading_bits]
-    outside = first_reading_outside(table, readings)
-    if outside is not None:
-        return refused(FIRST_READING_OUTSIDE + outside, reading_bits[outside])
-    answers = [answer_bits(number) for number in all_coefficients(table, readings)]
-    return DONE, answers, POSITIVE_ZERO
+    tests = tables.table_tests(table)
+    for v in range(5):
+        tests[NOT_FINITE[v]] = lambda v=v: not is_finite(reading_bits[v])
+        tests[READING_OUTSIDE[v]] = lambda v=v: float_is_outside(table, v, reading_bits[v])
+    number = tables.first_that_holds(DOOR_ORDER, tests)
+    if number != DONE:
+        return refused(number, handed_back_with(number, reading_bits))
+    return DONE, six_answers(table, reading_bits), POSITIVE_ZERO

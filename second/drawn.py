@@ -1,154 +1,194 @@
-"""Drawn cases: reads and moves of published, moved, random, unsound and damaged
-tables, and tables whose weight is just the cap.
+"""Sections of drawn reads and moves: published, moved, random, unsound and damaged tables, and tables whose weight is just the cap."""
 
-The lines are described in book.py.
-"""
-
-import book as lines
+from draws import I64_MAX, I64_MIN
 from makers import (
-    PROMISED_SIZES, damaged, filling_place, full_number, good_limits,
-    inside_state, last_accepted, nudged, of_sign, one_in_each_block,
-    random_table, rest_of_cap, shifted, spoil_limits, spoil_state, with_place,
-    zero_table,
+    PROMISED_SIZES, damage, filling_place, full_number, good_limits, inside_state, last_accepted, nudge, of_sign, one_in_each_block,
+    random_table, rest_of_cap, shifted, spoil_limits, spoil_state,
 )
 from model import FIRST_BLOCK, PUBLISHED_TABLE
 
 
-def use_table(book, gen, t):
+def use_table(script, gen, space):
     """Two reads of any table of full length."""
-    state = inside_state(gen, t)
-    book.read(t, state)
-    book.read(t, spoil_state(gen, t, state))
+    state = inside_state(gen, script.table(space))
+    script.read(space, state)
+    script.read(space, spoil_state(gen, script.table(space), state))
 
 
-def move_and_use(book, gen, t, variable, shift):
+def move_and_use(script, gen, space, variable, shift, into):
     """A move; if accepted, the same state on both sides and uses of the new table."""
-    state = inside_state(gen, t)
-    number, moved = book.move(t, variable, shift)
-    if number != 0:
-        return t
-    book.read(t, state)
-    book.read(moved, shifted(state, variable, shift))
-    use_table(book, gen, moved)
-    return moved
+    state = inside_state(gen, script.table(space))
+    if not script.move(space, variable, shift, into):
+        return False
+    script.read(space, state)
+    script.read(into, shifted(state, variable, shift))
+    use_table(script, gen, into)
+    return True
 
 
-def published_reads_section(book, gen):
+def published_reads(script, gen):
+    script.published(0)
     for _ in range(600):
-        use_table(book, gen, PUBLISHED_TABLE)
+        use_table(script, gen, 0)
 
 
-def published_moved_section(book, gen):
+def published_and_moved(script, gen):
+    script.published(0)
+    script.zeros(1)
     for _ in range(80):
         v = gen.take(0, 4)
         bound = PROMISED_SIZES[v] * gen.take(1, 3)
-        move_and_use(book, gen, PUBLISHED_TABLE, v, gen.take(-bound, bound))
+        move_and_use(script, gen, 0, v, gen.take(-bound, bound), 1)
 
 
-def two_moves(book, t, v, shift, w, other):
-    """Two moves after each other; the second in the first's variable too, and back."""
-    number, once = book.move(t, v, shift)
-    if number == 0:
-        book.move(once, v, -shift)
-        book.move(once, v, other)
-        book.move(once, w, other)
+def two_moves(script, v, shift, w, other):
+    """Two moves of space 0 after each other; the second in the first's variable too, and back."""
+    if script.move(0, v, shift, 1):
+        script.move(1, v, -shift, 2)
+        script.move(1, v, other, 2)
+        script.move(1, w, other, 2)
 
 
-def chains_section(book, gen):
-    """Moves on top of moves; a refused one leaves the chain where it was."""
+def composed_moves(script, gen):
+    """Moves on top of moves, there and back, in two steps and in one, in either order."""
+    script.zeros(1)
+    script.zeros(2)
     for _ in range(12):
-        t = list(PUBLISHED_TABLE)
+        script.published(0)
         for _ in range(5):
-            v = gen.take(0, 4)
-            shift = gen.take(-120, 120)
-            t = move_and_use(book, gen, t, v, shift)
-        v = gen.take(0, 4)
-        shift = gen.take(-60, 60)
-        w = gen.take(0, 4)
-        other = gen.take(-60, 60)
-        # there and back, in two steps and in one, in either order
-        two_moves(book, t, v, shift, w, other)
-        book.move(t, v, shift + other)
-        two_moves(book, t, w, other, v, shift)
+            if move_and_use(script, gen, 0, gen.take(0, 4), gen.take(-120, 120), 1):
+                script.copy(1, 0)
+        v, w = gen.take(0, 4), gen.take(0, 4)
+        shift, other = gen.take(-60, 60), gen.take(-60, 60)
+        two_moves(script, v, shift, w, other)
+        script.move(0, v, shift + other, 2)
+        two_moves(script, w, other, v, shift)
 
 
-def bad_limits_section(book, gen):
+def any_shift(gen):
+    """Mostly accepted at first; some pass a limit, some the cap, some are far away."""
+    return gen.pick((gen.take(-60, 60), gen.take(-300, 300), gen.take(-1500, 1500), gen.take(-4000, 4000), gen.pick((I64_MIN, I64_MAX))))
+
+
+def chains_with_refusals(script, gen):
+    """Moves of a space into itself, of which some are refused and leave the space as it was."""
+    for turn in range(40):
+        if turn % 2:
+            script.published(0)
+        else:
+            random_table(script, gen, 0)
+        for _ in range(10):
+            script.move(0, gen.take(0, 5), any_shift(gen), 0)
+            script.read(0, inside_state(gen, script.table(0)))
+        script.show(0, 0, 12)
+
+
+def bad_limits(script, gen):
+    script.published(0)
+    script.zeros(2)
     for _ in range(75):
-        t = spoil_limits(gen, PUBLISHED_TABLE)
-        use_table(book, gen, t)
-        book.move(t, gen.take(0, 6), gen.take(-10, 10))
+        script.copy(0, 1)
+        spoil_limits(script, gen, 1)
+        use_table(script, gen, 1)
+        script.move(1, gen.take(0, 6), gen.take(-10, 10), 2)
 
 
-def damaged_section(book, gen):
+def damaged_tables(script, gen):
     """One number of the published table, or of a moved one, changed."""
+    script.published(0)
+    script.zeros(2)
     for turn in range(150):
-        t = nudged(gen, PUBLISHED_TABLE) if turn % 2 == 1 else PUBLISHED_TABLE
-        t = damaged(gen, t)
-        use_table(book, gen, t)
-        v = gen.take(0, 4)
-        shift = gen.take(-100, 100)
-        move_and_use(book, gen, t, v, shift)
+        script.copy(0, 1)
+        if turn % 2 == 1:
+            nudge(script, gen, 0, 1)
+        damage(script, gen, 1)
+        use_table(script, gen, 1)
+        move_and_use(script, gen, 1, gen.take(0, 4), gen.take(-100, 100), 2)
 
 
-def random_section(book, gen):
+def border(script, gen, space, variable, into):
+    """The last accepted and the first refused move of a variable, one way."""
+    sign = of_sign(gen, 1)
+    size = last_accepted(script.table(space), variable, sign)
+    script.move(space, variable, sign * size, into)
+    script.move(space, variable, sign * (size + 1), into)
+
+
+def random_tables(script, gen):
     """Random tables, sound or too heavy: read, moved, and moved to their border."""
+    script.zeros(1)
     for _ in range(120):
-        t = random_table(gen)
-        use_table(book, gen, t)
+        random_table(script, gen, 0)
+        use_table(script, gen, 0)
         v = gen.take(0, 4)
-        move_and_use(book, gen, t, v, gen.take(-200, 200))
-        sign = -1 if gen.take(0, 1) == 1 else 1
-        size = last_accepted(t, v, sign)
-        book.move(t, v, sign * size)
-        book.move(t, v, sign * (size + 1))
+        move_and_use(script, gen, 0, v, gen.take(-200, 200), 1)
+        border(script, gen, 0, v, 1)
 
 
-def read_with(book, gen, t, place, size):
-    """Read the table with a number of the given size at a place; give it back."""
-    changed = with_place(t, place, of_sign(gen, size))
-    book.read(changed, inside_state(gen, changed))
-    return changed
+def borders_of_moved_tables(script, gen):
+    """Moved to the border in one variable, and from there in every one."""
+    script.zeros(1)
+    script.zeros(2)
+    for turn in range(16):
+        if turn % 2:
+            random_table(script, gen, 0)
+        else:
+            script.published(0)
+        v = gen.take(0, 4)
+        sign = of_sign(gen, 1)
+        if script.move(0, v, sign * last_accepted(script.table(0), v, sign), 1):
+            for w in range(5):
+                border(script, gen, 1, w, 2)
 
 
-def full_section(book, gen):
+def read_with(script, gen, place, size):
+    """Read the table in space 1 with a number of the given size at a place."""
+    script.set(1, place, of_sign(gen, size))
+    script.read(1, inside_state(gen, script.table(1)))
+
+
+def weights_at_the_cap(script, gen):
     """The largest number that a place takes, and the rest of the cap beside it."""
+    script.zeros(2)
     for k in range(300):
         limits = good_limits(gen)
-        t = zero_table(limits)
+        script.limits(1, limits)
         place = FIRST_BLOCK + k
-        size = full_number(limits, place)
-        read_with(book, gen, t, place, size + 1)
-        lone = read_with(book, gen, t, place, size)
+        size, rest = full_number(limits, place), rest_of_cap(limits, place)
         filling = filling_place(place)
-        rest = rest_of_cap(limits, place)
-        read_with(book, gen, lone, filling, rest + 1)
-        full = read_with(book, gen, lone, filling, rest)
+        read_with(script, gen, place, size + 1)
+        read_with(script, gen, place, size)
+        read_with(script, gen, filling, rest + 1)
+        read_with(script, gen, filling, rest)
         v = gen.take(0, 4)
-        book.move(full, v, 0)
-        book.move(full, v, gen.take(-3, 3))
+        script.move(1, v, 0, 2)
+        script.move(1, v, gen.take(-3, 3), 2)
 
 
-def each_block_section(book, gen):
+def each_block(script, gen):
     """A number in each block, sound, and then one block too heavy by itself.
 
     Taken together by place, the blocks' magnitudes are mostly too heavy.
     """
+    script.zeros(2)
     for k in range(90):
         limits = good_limits(gen)
-        t = one_in_each_block(gen, limits, k % 3)
-        use_table(book, gen, t)
-        v = gen.take(0, 4)
-        book.move(t, v, gen.take(-3, 3))
+        one_in_each_block(script, gen, 1, limits, k % 3)
+        use_table(script, gen, 1)
+        script.move(1, gen.take(0, 4), gen.take(-3, 3), 2)
         place = FIRST_BLOCK + gen.take(0, 299)
-        read_with(book, gen, t, place, full_number(limits, place) + 1)
+        read_with(script, gen, place, full_number(limits, place) + 1)
 
 
 SECTIONS = (
-    published_reads_section, published_moved_section, chains_section,
-    bad_limits_section, damaged_section, random_section, full_section,
-    each_block_section,
+    ("Drawn readings of the published table", published_reads),
+    ("The published table moved", published_and_moved),
+    ("Composed moves", composed_moves),
+    ("Chains of moves with refusals", chains_with_refusals),
+    ("Tables with bad limits", bad_limits),
+    ("Damaged tables", damaged_tables),
+    ("Random tables", random_tables),
+    ("Borders of moved tables", borders_of_moved_tables),
+    ("Weights at the cap", weights_at_the_cap),
+    ("A number in each block", each_block),
 )
-
-
-def run(write):
-    lines.run(SECTIONS, write)

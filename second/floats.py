@@ -1,50 +1,62 @@
-"""Reads with floats: the checked values 12 and 13, special patterns, every limit
-and its halves, every mixture of refusals, wrong lengths, and drawn readings of
-published, moved, random, damaged and unsound tables.
-
-The lines are described in book.py.
-"""
+"""Sections of reads with floats: the checked values 12 and 13, special patterns, every kind of NaN, every limit and its halves, and
+drawn readings of published, moved, random, damaged and unsound tables."""
 
 from fractions import Fraction
 
-import book as lines
-from door import INFINITY_BITS, nearest_bits
+from door import nearest_bits
 from makers import (
-    SPECIAL_BITS, TABLE_LENGTHS, bits_of_ratio, damaged, good_limits,
-    inside_float_state, nudged, of_length, one_in_each_block, random_table,
-    spoil_limits,
+    SPECIAL_BITS, ZEROS, bits_of_ratio, damage, good_limits, inside_float_state, nudge, one_in_each_block, random_table, spoil_limits,
+    with_reading,
 )
 from model import PUBLISHED_TABLE
 from tables import ALPHA_CUT, HIGHEST, LOWEST
 
-QUIET_NAN = 0x7FF8000000000000
-ZEROS = [0, 0, 0, 0, 0]
+SIGNS = (0, 1 << 63)
+INFINITY = 0x7FF << 52
+QUIET = 1 << 51
+LARGEST_PAYLOAD = QUIET - 1
 
 
-def with_pattern(variable, pattern):
-    state = list(ZEROS)
-    state[variable] = pattern
-    return state
-
-
-def checked_values_section(book, _):
-    t = PUBLISHED_TABLE
-    # 12
+def checked_values(script, _):
+    script.published(0)
+    script.comment("12")
     for alpha in ("0.5", "1.5", "2.5", "1000.5", "1000.6"):
-        book.float(t, with_pattern(0, nearest_bits(Fraction(alpha))))
-    book.float(t, [nearest_bits(Fraction(2000)), 0, 0, 0, QUIET_NAN])
-    # 13
-    book.float(t, ZEROS)
+        script.floats(0, with_reading(0, nearest_bits(Fraction(alpha))))
+    script.floats(0, [nearest_bits(Fraction(2000)), 0, 0, 0, INFINITY | QUIET])
+    script.comment("13")
+    script.floats(0, ZEROS)
 
 
-def special_section(book, _):
+def special_patterns(script, _):
+    script.published(0)
     for v in range(5):
         for pattern in SPECIAL_BITS:
-            book.float(PUBLISHED_TABLE, with_pattern(v, pattern))
+            script.floats(0, with_reading(v, pattern))
 
 
-def limits_section(book, _):
+def every_kind_of_nan(script, _):
+    """Quiet and signalling, both signs, the ends of the payload and each bit of it, alone and beside readings that are outside."""
+    script.published(0)
+    for v in range(5):
+        for sign in SIGNS:
+            for quiet, payloads in ((QUIET, (0, 1, QUIET >> 1, LARGEST_PAYLOAD)), (0, (1, QUIET >> 1, LARGEST_PAYLOAD))):
+                for payload in payloads:
+                    script.floats(0, with_reading(v, sign | INFINITY | quiet | payload))
+    for bit in range(52):
+        for sign in SIGNS:
+            state = [bits_of_ratio(3000, 1)] * 5
+            state[bit % 5] = sign | INFINITY | 1 << bit
+            script.floats(0, state)
+    script.comment("their neighbours: the largest finite ones and the infinities")
+    for v in range(5):
+        for sign in SIGNS:
+            for pattern in (INFINITY - 1, INFINITY, INFINITY + 1):
+                script.floats(0, with_reading(v, sign | pattern))
+
+
+def limits_and_halves(script, _):
     """Every limit with up to two halves less or more, and its neighbours."""
+    script.published(0)
     t = PUBLISHED_TABLE
     limits = [(v, t[places[v]]) for v in range(5) for places in (LOWEST, HIGHEST)]
     limits += [(0, t[ALPHA_CUT]), (0, t[ALPHA_CUT] + 1)]
@@ -52,73 +64,70 @@ def limits_section(book, _):
         for halves in range(-2, 3):
             exact = bits_of_ratio(2 * limit + halves, 2)
             for step in (-1, 0, 1):
-                book.float(t, with_pattern(v, exact + step))
+                script.floats(0, with_reading(v, exact + step))
 
 
-def order_section(book, _):
-    """Every mixture of readings that are inside, outside and not finite."""
-    choices = (bits_of_ratio(1, 4), bits_of_ratio(-10001, 2), INFINITY_BITS)
-    for mask in range(3**5):
-        state = [choices[mask // 3**v % 3] for v in range(5)]
-        book.float(PUBLISHED_TABLE, state)
-
-
-def lengths_section(book, _):
-    for length in TABLE_LENGTHS:
-        for pattern in (bits_of_ratio(1, 4), INFINITY_BITS):
-            book.float(of_length(length), with_pattern(1, pattern))
-
-
-def use_table(book, gen, t):
+def use_table(script, gen, space):
     """A read inside, and one with a pattern replaced by a special one or any."""
-    state = inside_float_state(gen, t)
-    book.float(t, state)
+    state = inside_float_state(gen, script.table(space))
+    script.floats(space, state)
     v = gen.take(0, 4)
-    way = gen.take(0, 1)
-    special = gen.pick(SPECIAL_BITS)
-    anything = gen.next()
-    state[v] = special if way == 0 else anything
-    book.float(t, state)
+    special, anything = gen.pick(SPECIAL_BITS), gen.next()
+    state[v] = gen.pick((special, anything))
+    script.floats(space, state)
 
 
-def published_section(book, gen):
+def published(script, gen):
+    script.published(0)
     for _ in range(250):
-        use_table(book, gen, PUBLISHED_TABLE)
+        use_table(script, gen, 0)
 
 
-def moved_section(book, gen):
+def moved(script, gen):
+    script.published(0)
     for _ in range(100):
-        use_table(book, gen, nudged(gen, PUBLISHED_TABLE))
+        nudge(script, gen, 0, 1)
+        use_table(script, gen, 1)
 
 
-def random_section(book, gen):
+def random_ones(script, gen):
     for _ in range(100):
-        use_table(book, gen, random_table(gen))
+        random_table(script, gen, 0)
+        use_table(script, gen, 0)
 
 
-def damaged_section(book, gen):
+def damaged(script, gen):
+    script.published(0)
     for _ in range(75):
-        use_table(book, gen, damaged(gen, PUBLISHED_TABLE))
+        script.copy(0, 1)
+        damage(script, gen, 1)
+        use_table(script, gen, 1)
 
 
-def bad_limits_section(book, gen):
+def bad_limits(script, gen):
+    script.published(0)
     for _ in range(40):
-        use_table(book, gen, spoil_limits(gen, PUBLISHED_TABLE))
+        script.copy(0, 1)
+        spoil_limits(script, gen, 1)
+        use_table(script, gen, 1)
 
 
-def each_block_section(book, gen):
+def near_the_cap(script, gen):
     """Tables near the cap in every block."""
     for k in range(60):
-        limits = good_limits(gen)
-        use_table(book, gen, one_in_each_block(gen, limits, k % 3))
+        one_in_each_block(script, gen, 1, good_limits(gen), k % 3)
+        use_table(script, gen, 1)
 
 
 SECTIONS = (
-    checked_values_section, special_section, limits_section, order_section,
-    lengths_section, published_section, moved_section, random_section,
-    damaged_section, bad_limits_section, each_block_section,
+    ("Checked values 12 and 13", checked_values),
+    ("Special patterns", special_patterns),
+    ("Every kind of NaN", every_kind_of_nan),
+    ("Floats at the limits and their halves", limits_and_halves),
+    ("Drawn floats of the published table", published),
+    ("Drawn floats of moved tables", moved),
+    ("Drawn floats of random tables", random_ones),
+    ("Drawn floats of damaged tables", damaged),
+    ("Drawn floats of tables with bad limits", bad_limits),
+    ("Drawn floats of tables near the cap", near_the_cap),
 )
-
-
-def run(write):
-    lines.run(SECTIONS, write)

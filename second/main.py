@@ -1,37 +1,41 @@
 """Command line of the second program.
 
-    python3 main.py checked            print the lines of the checked values
-    python3 main.py cases              print the lines of the listed cases
-    python3 main.py drawn              print the lines of the drawn cases
-    python3 main.py floats             print the lines of the reads with floats
+    python3 main.py desk-script        write the script of cases for the desk
+    python3 main.py desk               answer a script from standard input
+    python3 main.py desk-cases         compare the script and the answers that are kept with what is worked out
+    python3 main.py wrong              show that each wrong model is noticed
     python3 main.py trimcard           answer lines from standard input
-    python3 main.py trimcard-input     print a test input for the line program
+    python3 main.py trimcard-input     write a test input for the line program
 """
 
 import sys
 
-import cases
-import checked
-import drawn
-import floats
+import desk
+import kept
 import trimcard
 import trimcard_input
+import wrong
 
-CASES = {"checked": checked.run, "cases": cases.run, "drawn": drawn.run,
-         "floats": floats.run}
+WRITES = {
+    "desk-script": lambda: kept.worked_out()[0],
+    "desk": lambda: desk.run(sys.stdin.buffer.read()),
+    "trimcard": lambda: trimcard.run(sys.stdin.buffer.read()),
+    "trimcard-input": trimcard_input.build,
+}
+CHECKS = {"desk-cases": kept.check, "wrong": wrong.check}
 
 
 def main(arguments):
-    if len(arguments) == 1 and arguments[0] in CASES:
-        CASES[arguments[0]](sys.stdout.write)
-    elif arguments == ["trimcard"]:
-        sys.stdout.buffer.write(trimcard.run(sys.stdin.buffer.read()))
-    elif arguments == ["trimcard-input"]:
-        sys.stdout.buffer.write(trimcard_input.build())
-    else:
-        sys.stderr.write(__doc__)
-        return 2
-    return 0
+    name = arguments[0] if len(arguments) == 1 else None
+    if name in WRITES:
+        sys.stdout.buffer.write(WRITES[name]())
+        return 0
+    if name in CHECKS:
+        fine, said = CHECKS[name]()
+        print(said)
+        return 0 if fine else 1
+    sys.stderr.write(__doc__)
+    return 2
 
 
 if __name__ == "__main__":

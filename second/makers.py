@@ -1,50 +1,31 @@
-"""Tables and states for cases: plain ones, drawn ones, ones at a border."""
+"""States, tables and floats for cases: plain ones, drawn ones, ones at a border.
+
+What makes a table tells a script how, and leaves it in a space of the script's desk.
+"""
 
 from fractions import Fraction
 
 import door
 import tables
-from book import I64_MAX, I64_MIN, signed
-from model import (
-    BLOCK_LENGTH, FIRST_BLOCK, GROUPS, HIGH_GROUP, LOW_GROUP, PUBLISHED_TABLE,
-    TABLE_LENGTH, XI_GROUP, ZETA_GROUP, place_of,
-)
+from draws import I64_MAX, I64_MIN, signed
+from model import BLOCK_LENGTH, FIRST_BLOCK, GROUPS, HIGH_GROUP, LOW_GROUP, TABLE_LENGTH, XI_GROUP, ZETA_GROUP, place_of
 from tables import HIGHEST, LOWEST, WEIGHT_CAP
 
 ZEROS = [0, 0, 0, 0, 0]
 NARROW_LIMITS = (-100, 0, 1, 0, 0, 0, 0, 0, 0, 0, 0)
 X_CONSTANT = FIRST_BLOCK
 X_LOW_AAA = place_of(0, 0, (3, 0))          # place 17
-# the length of a table, and others about it and about those of its parts
-TABLE_LENGTHS = (311, 0, 1, 6, 10, 11, 61, 310, 312, 622)
 # sizes up to which each single move of the published table is accepted
 PROMISED_SIZES = (300, 200, 100, 200, 200)
 
 
-# ----------------------------------------------------------------------- plain
+# ---------------------------------------------------------------------- states
 
 def with_reading(variable, value):
     readings = list(ZEROS)
     readings[variable] = value
     return readings
 
-
-def with_place(table, place, value):
-    changed = list(table)
-    changed[place] = value
-    return changed
-
-
-def of_length(length):
-    """The published table, cut short or with zeros behind it."""
-    return [PUBLISHED_TABLE[i] if i < TABLE_LENGTH else 0 for i in range(length)]
-
-
-def zero_table(limits):
-    return list(limits) + [0] * 300
-
-
-# ---------------------------------------------------------------------- states
 
 def inside_state(gen, table):
     """Five readings within the limits, often on them or at the cut."""
@@ -85,48 +66,33 @@ def shifted(readings, variable, shift):
 
 # -------------------------------------------------------------- changed tables
 
-def nudged(gen, table):
+def nudge(script, gen, space, into):
     """A small move, which the published table always takes."""
-    variable = gen.take(0, 4)
-    shift = gen.take(-100, 100)
-    moved = [0] * TABLE_LENGTH
-    tables.move(table, variable, shift, moved)
-    return moved
+    script.length(into, TABLE_LENGTH)
+    script.move(space, gen.take(0, 4), gen.take(-100, 100), into)
 
 
-def spoil_limits(gen, table):
+def spoil_limits(script, gen, space):
     """Limits that are not good, or, the last way, just still good."""
-    t = list(table)
-    way = gen.take(0, 6)
-    place = gen.take(0, 10)
+    t = script.table(space)
     v = gen.take(1, 4)
-    anything = gen.take(I64_MIN, I64_MAX)
-    if way == 0:
-        t[place] = 2001
-    elif way == 1:
-        t[place] = -2001
-    elif way == 2:
-        t[place] = gen.pick((I64_MIN, I64_MAX, anything))
-    elif way == 3:
-        t[1] = t[2]                         # no room for the high piece
-    elif way == 4:
-        t[0] = t[1] + 1                     # no room for the low piece
-    elif way == 5:
-        t[LOWEST[v]] = t[HIGHEST[v]] + 1
-    else:
-        t[LOWEST[v]] = t[HIGHEST[v]]        # still good: one single reading
-    return t
+    far = gen.pick((I64_MIN, I64_MAX, gen.take(I64_MIN, I64_MAX)))
+    place, value = gen.pick((
+        (gen.take(0, 10), 2001), (gen.take(0, 10), -2001), (gen.take(0, 10), far),
+        (1, t[2]),                          # no room for the high piece
+        (0, t[1] + 1),                      # no room for the low piece
+        (LOWEST[v], t[HIGHEST[v]] + 1),
+        (LOWEST[v], t[HIGHEST[v]]),         # still good: one single reading
+    ))
+    script.set(space, place, value)
 
 
-def damaged(gen, table):
+def damage(script, gen, space):
     """One number changed."""
     place = gen.take(0, 310)
-    way = gen.take(0, 6)
+    old = script.table(space)[place]
     anything = gen.take(I64_MIN, I64_MAX)
-    old = table[place]
-    return with_place(table, place, (
-        I64_MIN, I64_MAX, signed(old + 1), signed(old - 1), signed(-old), 0,
-        anything)[way])
+    script.set(space, place, gen.pick((I64_MIN, I64_MAX, signed(old + 1), signed(old - 1), signed(-old), 0, anything)))
 
 
 # --------------------------------------------------------------- random tables
@@ -145,6 +111,13 @@ def good_limits(gen):
     return limits
 
 
+def group_and_offset(place):
+    """The number of a place's group, and its place inside that."""
+    offset = (place - FIRST_BLOCK) % BLOCK_LENGTH
+    number = max(g for g in range(len(GROUPS)) if GROUPS[g].start <= offset)
+    return number, offset - GROUPS[number].start
+
+
 def factor_at(limits, place):
     """The product of reaches by which the number at a place is weighed."""
     group_number, inside = group_and_offset(place)
@@ -154,33 +127,27 @@ def factor_at(limits, place):
     return radii[group.first] ** of_first * radii[group.second] ** of_second
 
 
-def group_and_offset(place):
-    """The number of a place's group, and its place inside that."""
-    offset = (place - FIRST_BLOCK) % BLOCK_LENGTH
-    number = max(g for g in range(len(GROUPS)) if GROUPS[g].start <= offset)
-    return number, offset - GROUPS[number].start
+# What a term may weigh. The first make tables near the cap, on either side of it; the last make light tables that can be moved far.
+BUDGETS = (2 * 10**18, 10**18, 5 * 10**17, 10**15, 10**12, 10**9)
+STEPS = (50, 50, 50, 50, 100, 150, 0)
 
 
-BUDGETS = (500000000000000000, 400000000000000000, 200000000000000000,
-           1000000000000000, 1000000000000, 1000000000)
+def draw_seed(gen):
+    """Long enough that the first drawn number has 64 bits too."""
+    return gen.take(1, 10**12)
 
 
-def random_table(gen):
-    """A table whose terms each weigh at most a drawn budget.
-
-    The first budgets make tables near the cap on either side; the last ones
-    make light tables that can be moved far.
-    """
+def random_table(script, gen, space):
+    """Good limits, and drawn numbers at some places of several blocks, each weighing no more than a drawn budget."""
     limits = good_limits(gen)
+    script.limits(space, limits)
     budget = gen.pick(BUDGETS)
-    density = gen.take(1, 4)                # quarters of the terms kept
-    table = zero_table(limits)
-    for place in range(FIRST_BLOCK, TABLE_LENGTH):
-        bound = budget // factor_at(limits, place)
-        number = gen.take(-bound, bound)
-        if gen.take(1, 4) <= density:
-            table[place] = number
-    return table
+    if gen.take(0, 1) == 1:                 # no place is left 0
+        heaviest = max(factor_at(limits, place) for place in range(FIRST_BLOCK, FIRST_BLOCK + BLOCK_LENGTH))
+        script.fill(space, FIRST_BLOCK, 1, budget // heaviest + 2, draw_seed(gen))
+    for _ in range(gen.take(4, 14)):
+        place = gen.take(FIRST_BLOCK, FIRST_BLOCK + 2 * BLOCK_LENGTH - 1)
+        script.fill(space, place, gen.pick(STEPS), budget // factor_at(limits, place) + 1, draw_seed(gen))
 
 
 # --------------------------------------------------------------------- borders
@@ -194,7 +161,7 @@ def last_accepted(table, variable, sign):
     accepted, beyond = 0, 4001
     while beyond - accepted > 1:
         middle = (accepted + beyond) // 2
-        if tables.move_number(table, variable, sign * middle, 311) == 0:
+        if tables.move_number(table, variable, sign * middle, TABLE_LENGTH) == 0:
             accepted = middle
         else:
             beyond = middle
@@ -231,21 +198,19 @@ def size_near(gen, full, way):
     return (full // (part + 1), full - less, full)[way]
 
 
-def one_in_each_block(gen, limits, way):
+def one_in_each_block(script, gen, space, limits, way):
     """One number in each block, within the cap.
 
     Way 0: at places of their own, each a part of the largest number; ways 1
     and 2: all at the same place of their blocks, near the largest number and
     the largest number itself.
     """
-    table = zero_table(limits)
+    script.limits(space, limits)
     same = gen.take(0, BLOCK_LENGTH - 1)
     for start in range(FIRST_BLOCK, TABLE_LENGTH, BLOCK_LENGTH):
         own = gen.take(0, BLOCK_LENGTH - 1)
         place = start + (own if way == 0 else same)
-        size = size_near(gen, full_number(limits, place), way)
-        table[place] = of_sign(gen, size)
-    return table
+        script.set(space, place, of_sign(gen, size_near(gen, full_number(limits, place), way)))
 
 
 # ---------------------------------------------------------------------- floats

@@ -1,11 +1,17 @@
 """Whole-number answers: soundness, publish, read and move of a table.
 
 Everything is done on plain Python whole numbers, so nothing here can overflow;
-the arguments are meant to be 64-bit numbers.  An operation gives back its
-number and writes into the list lent to it only when that number is 0.
+the arguments are meant to be 64-bit numbers, and a table is a tuple of them.  An
+operation gives back its number and writes into the list lent to it only when that
+number is 0.
+
+What is remembered (lru_cache) is worked out from the arguments alone, so it only
+saves time; whoever replaces a function here has to call forget().
 """
 
+from functools import lru_cache
 from math import comb
+from operator import mul
 
 from model import (
     ALPHA, BLOCK_COUNT, BLOCK_LENGTH, FIRST_BLOCK, GROUPS, HIGH_GROUP,
@@ -20,9 +26,14 @@ TOO_HEAVY = 4
 NO_SUCH_VARIABLE = 5
 MOVED_LIMIT_OUTSIDE = 6
 MOVE_TOO_HEAVY = 7
-FIRST_READING_OUTSIDE = 11          # alpha; the other variables follow
+READING_OUTSIDE = (11, 12, 13, 14, 15)      # by variable number
+
+READ_ORDER = (WRONG_TABLE_LENGTH, WRONG_OUTPUT_LENGTH, LIMITS_NOT_GOOD, TOO_HEAVY) + READING_OUTSIDE
+MOVE_ORDER = (WRONG_TABLE_LENGTH, WRONG_OUTPUT_LENGTH, NO_SUCH_VARIABLE, LIMITS_NOT_GOOD, TOO_HEAVY,
+              MOVED_LIMIT_OUTSIDE, MOVE_TOO_HEAVY)
 
 WEIGHT_CAP = 9 * 10**18
+MOVE_WEIGHT_CAP = WEIGHT_CAP
 LIMIT_CAP = 2000
 READ_LENGTH = 6
 VARIABLE_COUNT = 5
@@ -35,7 +46,18 @@ HIGHEST = (2, 4, 6, 8, 10)
 LIMIT_PLACES = ((0, 1, 2), (3, 4), (5, 6), (7, 8), (9, 10))
 
 PIECES = (LOW_GROUP, HIGH_GROUP)
+SIDE_GROUPS = (XI_GROUP, ZETA_GROUP)
 
+
+def first_that_holds(order, tests):
+    """The first number in the order whose test holds, or 0."""
+    for number in order:
+        if tests[number]():
+            return number
+    return DONE
+
+
+# ---------------------------------------------------------------------- limits
 
 def limits_of(table):
     return list(table[:FIRST_BLOCK])
@@ -72,79 +94,81 @@ def reaches(limits, piece):
     return [alpha] + others
 
 
-def group_terms(table, block, group_number):
-    """Yield (stored number, power of first, power of second)."""
+# ------------------------------------------------------------------------ sums
+
+def part_of(block, group_number):
+    """Where a group of a block stands in a table."""
     group = GROUPS[group_number]
     start = FIRST_BLOCK + BLOCK_LENGTH * block + group.start
-    for offset, (of_first, of_second) in enumerate(group.powers):
-        yield table[start + offset], of_first, of_second
+    return slice(start, start + len(group.powers))
 
 
-def weight(table, block, piece, radii):
-    """Sum of magnitudes times radii raised to each term's powers."""
-    total = 0
-    for group_number in (piece, XI_GROUP, ZETA_GROUP):
-        first = radii[GROUPS[group_number].first]
-        second = radii[GROUPS[group_number].second]
-        for number, of_first, of_second in group_terms(table, block, group_number):
-            if number:
-                total += abs(number) * first**of_first * second**of_second
-    return total
+PARTS = [[part_of(block, group) for group in range(len(GROUPS))] for block in range(BLOCK_COUNT)]
+
+
+@lru_cache(maxsize=4096)
+def products(group_number, first, second):
+    """First to its power times second to its power, for each place of a group."""
+    of_first = [first**power for power in range(5)]
+    of_second = [second**power for power in range(5)]
+    return [of_first[p] * of_second[q] for p, q in GROUPS[group_number].powers]
+
+
+def sums(numbers, piece, five):
+    """For each block: the numbers of the piece's group and of both side groups, each
+    times the powers of its two of the five."""
+    groups = [(group, products(group, five[GROUPS[group].first], five[GROUPS[group].second]))
+              for group in (piece,) + SIDE_GROUPS]
+    return [sum(sum(map(mul, numbers[PARTS[block][group]], factors)) for group, factors in groups)
+            for block in range(BLOCK_COUNT)]
+
+
+def magnitudes(table):
+    return [abs(number) for number in table]
 
 
 def weights(table):
-    """The twelve weights, block by block, low piece before high."""
-    limits = limits_of(table)
-    return [weight(table, block, piece, reaches(limits, piece))
-            for block in range(BLOCK_COUNT) for piece in PIECES]
+    """The twelve weights, those of the low piece before those of the high one."""
+    limits, stored = limits_of(table), magnitudes(table)
+    return [weight for piece in PIECES for weight in sums(stored, piece, reaches(limits, piece))]
 
 
-def soundness(table):
-    """0, 3 or 4 for a table of the right length."""
-    if not limits_are_good(limits_of(table)):
-        return LIMITS_NOT_GOOD
-    if any(w > WEIGHT_CAP for w in weights(table)):
-        return TOO_HEAVY
-    return DONE
+@lru_cache(maxsize=256)
+def is_light(table):
+    return all(weight <= WEIGHT_CAP for weight in weights(table))
 
 
-def coefficient(table, block, readings):
-    """The plain sum of the chosen alpha group and both side groups."""
-    piece = LOW_GROUP if readings[ALPHA] <= table[ALPHA_CUT] else HIGH_GROUP
-    total = 0
-    for group_number in (piece, XI_GROUP, ZETA_GROUP):
-        first = readings[GROUPS[group_number].first]
-        second = readings[GROUPS[group_number].second]
-        for number, of_first, of_second in group_terms(table, block, group_number):
-            total += number * first**of_first * second**of_second
-    return total
+# --------------------------------------------------------------------- reading
 
-
-def first_reading_outside(table, readings):
-    """The variable number of the first reading past its limits, or None."""
-    for v in range(VARIABLE_COUNT):
-        if not table[LOWEST[v]] <= readings[v] <= table[HIGHEST[v]]:
-            return v
-    return None
+def piece_at(table, alpha):
+    return LOW_GROUP if alpha <= table[ALPHA_CUT] else HIGH_GROUP
 
 
 def all_coefficients(table, readings):
-    return [coefficient(table, block, readings) for block in range(BLOCK_COUNT)]
+    return sums(table, piece_at(table, readings[ALPHA]), readings)
+
+
+def is_outside(table, variable, reading):
+    return not table[LOWEST[variable]] <= reading <= table[HIGHEST[variable]]
+
+
+def table_tests(table):
+    return {
+        WRONG_TABLE_LENGTH: lambda: len(table) != TABLE_LENGTH,
+        LIMITS_NOT_GOOD: lambda: not limits_are_good(limits_of(table)),
+        TOO_HEAVY: lambda: not is_light(table),
+    }
 
 
 def read(table, readings, output):
-    if len(table) != TABLE_LENGTH:
-        return WRONG_TABLE_LENGTH
-    if len(output) != READ_LENGTH:
-        return WRONG_OUTPUT_LENGTH
-    trouble = soundness(table)
-    if trouble != DONE:
-        return trouble
-    outside = first_reading_outside(table, readings)
-    if outside is not None:
-        return FIRST_READING_OUTSIDE + outside
-    output[:] = all_coefficients(table, readings)
-    return DONE
+    tests = table_tests(table)
+    tests[WRONG_OUTPUT_LENGTH] = lambda: len(output) != READ_LENGTH
+    for v, number in enumerate(READING_OUTSIDE):
+        tests[number] = lambda v=v: is_outside(table, v, readings[v])
+    number = first_that_holds(READ_ORDER, tests)
+    if number == DONE:
+        output[:] = all_coefficients(table, readings)
+    return number
 
 
 def publish(output):
@@ -154,67 +178,88 @@ def publish(output):
     return DONE
 
 
+# ---------------------------------------------------------------------- moving
+
+def move_reach(new_reach, shift):
+    return new_reach + abs(shift)
+
+
 def move_weights(table, variable, shift):
     """The twelve sums that decide whether a move may be multiplied out.
 
     The old magnitudes are weighed where the moved variable reaches as far as
     its new reach and the shift together.
     """
-    old = limits_of(table)
+    old, stored = limits_of(table), magnitudes(table)
     new = moved_limits(old, variable, shift)
-    sums = []
-    for block in range(BLOCK_COUNT):
-        for piece in PIECES:
-            radii = reaches(old, piece)
-            radii[variable] = reaches(new, piece)[variable] + abs(shift)
-            sums.append(weight(table, block, piece, radii))
-    return sums
+    found = []
+    for piece in PIECES:
+        radii = reaches(old, piece)
+        radii[variable] = move_reach(reaches(new, piece)[variable], shift)
+        found += sums(stored, piece, radii)
+    return found
 
 
-def moved_group(terms, moves_first, moves_second, shift, powers):
-    """Multiply out one group with its moved variable replaced by itself + shift."""
-    new = {pair: 0 for pair in powers}
-    for number, p, q in terms:
-        if moves_first:
-            for kept in range(p + 1):
-                new[kept, q] += number * comb(p, kept) * shift ** (p - kept)
-        elif moves_second:
-            for kept in range(q + 1):
-                new[p, kept] += number * comb(q, kept) * shift ** (q - kept)
-        else:
-            new[p, q] += number
-    return [new[pair] for pair in powers]
+def power_moved(power, shift):
+    """(v + shift)^power as pairs of a kept power of v and its factor."""
+    return [(kept, comb(power, kept) * shift ** (power - kept)) for kept in range(power + 1)]
+
+
+def term_moved(p, q, moves_first, shift):
+    """Where a term goes: triples of both powers and a factor."""
+    if moves_first:
+        return [(kept, q, factor) for kept, factor in power_moved(p, shift)]
+    return [(p, kept, factor) for kept, factor in power_moved(q, shift)]
+
+
+def group_moved(group, variable, shift):
+    """For each place of a group that has the variable: the places that its number goes to, with factors."""
+    return [[(group.powers.index((p, q)), factor) for p, q, factor in term_moved(*powers, group.first == variable, shift)]
+            for powers in group.powers]
+
+
+def multiplied_out(numbers, goes_to):
+    new = [0] * len(numbers)
+    for number, places in zip(numbers, goes_to):
+        if number:
+            for place, factor in places:
+                new[place] += number * factor
+    return new
+
+
+def moved_groups(variable):
+    """The numbers of the groups that have the variable."""
+    return [number for number, group in enumerate(GROUPS) if variable in (group.first, group.second)]
 
 
 def moved_table(table, variable, shift):
     """The table after a move, with no refusals looked at."""
-    result = moved_limits(limits_of(table), variable, shift)
-    for block in range(BLOCK_COUNT):
-        for group_number, group in enumerate(GROUPS):
-            result += moved_group(
-                group_terms(table, block, group_number),
-                group.first == variable, group.second == variable,
-                shift, group.powers)
+    result = moved_limits(limits_of(table), variable, shift) + list(table[FIRST_BLOCK:])
+    for number in moved_groups(variable):
+        goes_to = group_moved(GROUPS[number], variable, shift)
+        for block in range(BLOCK_COUNT):
+            part = PARTS[block][number]
+            result[part] = multiplied_out(table[part], goes_to)
     return result
+
+
+def moved_limit_outside(table, variable, shift):
+    new = moved_limits(limits_of(table), variable, shift)
+    return any(not -LIMIT_CAP <= new[place] <= LIMIT_CAP for place in LIMIT_PLACES[variable])
+
+
+def move_is_too_heavy(table, variable, shift):
+    return any(weight > MOVE_WEIGHT_CAP for weight in move_weights(table, variable, shift))
 
 
 def move_number(table, variable, shift, output_length):
     """The number a move gives back, without working it out."""
-    if len(table) != TABLE_LENGTH:
-        return WRONG_TABLE_LENGTH
-    if output_length != TABLE_LENGTH:
-        return WRONG_OUTPUT_LENGTH
-    if variable >= VARIABLE_COUNT:
-        return NO_SUCH_VARIABLE
-    trouble = soundness(table)
-    if trouble != DONE:
-        return trouble
-    new = moved_limits(limits_of(table), variable, shift)
-    if any(not -LIMIT_CAP <= new[place] <= LIMIT_CAP for place in LIMIT_PLACES[variable]):
-        return MOVED_LIMIT_OUTSIDE
-    if any(w > WEIGHT_CAP for w in move_weights(table, variable, shift)):
-        return MOVE_TOO_HEAVY
-    return DONE
+    tests = table_tests(table)
+    tests[WRONG_OUTPUT_LENGTH] = lambda: output_length != TABLE_LENGTH
+    tests[NO_SUCH_VARIABLE] = lambda: variable >= VARIABLE_COUNT
+    tests[MOVED_LIMIT_OUTSIDE] = lambda: moved_limit_outside(table, variable, shift)
+    tests[MOVE_TOO_HEAVY] = lambda: move_is_too_heavy(table, variable, shift)
+    return first_that_holds(MOVE_ORDER, tests)
 
 
 def move(table, variable, shift, output):
@@ -222,3 +267,9 @@ def move(table, variable, shift, output):
     if number == DONE:
         output[:] = moved_table(table, variable, shift)
     return number
+
+
+def forget():
+    """Forget what was worked out, for when a function above has been replaced."""
+    products.cache_clear()
+    is_light.cache_clear()

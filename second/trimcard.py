@@ -2,6 +2,7 @@
 
 import re
 
+from desk import split_lines
 from model import PUBLISHED_TABLE
 from tables import READ_LENGTH, read
 
@@ -10,14 +11,6 @@ MALFORMED = 31
 # Written for bytes: the digit class then means the ten ASCII digits only.
 NUMBER = rb"-?[0-9]{1,4}"
 LINE = re.compile(NUMBER + rb"(?: " + NUMBER + rb"){4}")
-
-
-def split_lines(data):
-    """Lines without their newline; what follows the last newline counts if any."""
-    lines = data.split(b"\n")
-    if lines[-1] == b"":
-        lines.pop()
-    return lines
 
 
 def answer_line(line):

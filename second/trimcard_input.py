@@ -1,6 +1,6 @@
 """A test input for the line program: good lines at every edge, and bad ones."""
 
-from book import Generator
+from draws import Generator
 from makers import inside_state, spoil_state
 from model import PUBLISHED_TABLE
 from tables import HIGHEST, LOWEST

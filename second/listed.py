@@ -1,0 +1,323 @@
+"""Sections in which nothing is drawn: the checked values, every limit, wrong lengths, every mixture of defects, single numbers."""
+
+from draws import I64_MAX, I64_MIN, MASK
+from makers import NARROW_LIMITS, PROMISED_SIZES, X_CONSTANT, X_LOW_AAA, ZEROS, last_accepted, with_reading
+from model import BLOCK_LENGTH, FIRST_BLOCK, PUBLISHED_TABLE, TABLE_LENGTH
+from tables import HIGHEST, LOWEST, WEIGHT_CAP
+
+ODD_VARIABLES = (5, 6, 1 << 32, (1 << 32) + 1, 1 << 63, MASK)
+# the length of a table, and others about it and about those of its parts
+TABLE_LENGTHS = (311, 0, 1, 6, 10, 11, 61, 310, 312, 320)
+READ_ROOMS = (6, 5, 7) + TABLE_LENGTHS
+ENDS = (I64_MIN, I64_MIN + 1, -(1 << 32), -(1 << 31), (1 << 31) - 1, 1 << 32, I64_MAX - 1, I64_MAX)
+
+
+def publishing(script, _):
+    for length in TABLE_LENGTHS:
+        script.zeros(0, length)
+        script.publish(0)
+        script.sum(0)
+    script.comment("over other numbers, and every number of it")
+    script.zeros(0)
+    script.fill(0, 0, 1, MASK, 1)
+    script.publish(0)
+    script.show(0, 0, FIRST_BLOCK)
+    for start in range(FIRST_BLOCK, TABLE_LENGTH, BLOCK_LENGTH):
+        script.show(0, start, BLOCK_LENGTH)
+
+
+def checked_values(script, _):
+    script.published(0)
+    script.length(1, TABLE_LENGTH)
+    script.comment("1 to 6")
+    for state in (ZEROS, with_reading(0, 100), with_reading(0, 313), with_reading(0, 314), [100, 0, 0, 100, 0], with_reading(2, 100)):
+        script.read(0, state)
+    script.comment("7")
+    for alpha in (1000, 1001, -150, -151):
+        script.read(0, with_reading(0, alpha))
+    script.read(0, [1001, 501, 0, 0, 0])
+    script.comment("8 and 9")
+    for shift in (100, -1000, -1001):
+        script.move(0, 0, shift, 1)
+        script.show(1, 0, 21)
+    script.comment("10")
+    script.limits(0, PUBLISHED_TABLE[:FIRST_BLOCK])
+    for value in (WEIGHT_CAP, WEIGHT_CAP + 1):
+        script.set(0, X_CONSTANT, value)
+        script.read(0, ZEROS)
+        script.move(0, 0, 0, 1)
+    script.comment("11")
+    script.limits(0, NARROW_LIMITS)
+    script.set(0, X_LOW_AAA, 9000000000000)
+    for alpha, shift in ((0, 0), (-25, 100), (-50, -100), (-75, 1), (-100, -1)):
+        script.read(0, with_reading(0, alpha))
+        script.move(0, 0, shift, 1)
+
+
+def readings_at_the_limits(script, _):
+    script.published(0)
+    t = PUBLISHED_TABLE
+    for v in range(5):
+        lo, hi = t[LOWEST[v]], t[HIGHEST[v]]
+        for value in (lo - 1, lo, lo + 1, -1, 0, 1, hi - 1, hi, hi + 1):
+            script.read(0, with_reading(v, value))
+    for alpha in range(310, 318):
+        script.read(0, [alpha, 7, -5, 3, -2])
+    script.comment("every corner, in both pieces")
+    for corner in range(32):
+        script.read(0, [t[HIGHEST[v]] if corner >> v & 1 else t[LOWEST[v]] for v in range(5)])
+
+
+def readings_at_the_ends(script, _):
+    """Readings at the ends of 64 and of 32 bits, and two and more of them."""
+    script.published(0)
+    script.length(1, TABLE_LENGTH)
+    script.move(0, 0, 300, 1)
+    for v in range(5):
+        for value in ENDS + (1 << 32 | 5, -(1 << 32) - 5):
+            script.read(0, with_reading(v, value))
+            script.read(1, with_reading(v, value))
+    for v in range(5):
+        for w in range(5):
+            state = with_reading(w, I64_MAX)
+            state[v] = I64_MIN
+            script.read(0, state)
+    for value in ENDS:
+        script.read(0, [value] * 5)
+        for v in range(5):
+            state = [value] * 5
+            state[v] = 0
+            script.read(1, state)
+
+
+def shifts_at_the_ends(script, _):
+    """Shifts at the ends of 64 and of 32 bits, of tables at both ends of the limits too."""
+    script.published(0)
+    script.limits(1, PUBLISHED_TABLE[:FIRST_BLOCK])
+    script.limits(2, [-2000, 0, 2000] + [-2000, 2000] * 4)
+    script.limits(3, [-2000, -2000, -1999] + [-2000, -2000] * 4)
+    script.limits(4, [1999, 1999, 2000] + [2000, 2000] * 4)
+    script.length(5, TABLE_LENGTH)
+    for v in range(5):
+        for shift in ENDS + ((1 << 32) + 1, I64_MIN + 2000, I64_MIN + 2001, I64_MAX - 2000, I64_MAX - 1999):
+            for space in range(5):
+                script.move(space, v, shift, 5)
+    for v in range(5):
+        for space, shifts in ((2, (-1, 0, 1)), (3, (-4001, -4000, -3999, -1, 0, 1)), (4, (4001, 4000, 3999, 1, 0, -1))):
+            for shift in shifts:
+                script.move(space, v, shift, 5)
+
+
+def moves_of_the_published_table(script, _):
+    script.published(0)
+    script.limits(1, PUBLISHED_TABLE[:FIRST_BLOCK])
+    script.length(2, TABLE_LENGTH)
+    t = PUBLISHED_TABLE
+    for v in range(5):
+        lo, hi = t[LOWEST[v]], t[HIGHEST[v]]
+        promised = PROMISED_SIZES[v]
+        for shift in (0, 1, -1, promised, -promised, promised + 1, -promised - 1,
+                      lo, hi, lo + 2000, lo + 2001, hi - 2000, hi - 2001, 4000, -4000):
+            script.move(0, v, shift, 2)
+            script.move(1, v, shift, 2)
+    script.comment("the last that is accepted and the first that is refused")
+    for v in range(5):
+        for sign in (1, -1):
+            size = last_accepted(t, v, sign)
+            script.move(0, v, sign * size, 2)
+            script.move(0, v, sign * (size + 1), 2)
+    script.comment("variables that are none")
+    for v in ODD_VARIABLES:
+        for shift in (0, 1, -1001, I64_MIN, I64_MAX):
+            script.move(0, v, shift, 2)
+
+
+def wrong_lengths(script, _):
+    for length in TABLE_LENGTHS:
+        script.published(0)
+        script.length(0, length)
+        for room in READ_ROOMS:
+            script.read(0, ZEROS, room)
+        script.floats(0, ZEROS)
+        script.floats(0, with_reading(1, 0x7FF << 52))
+    variable = 4                            # by turns the last one and none
+    for into, length in enumerate(TABLE_LENGTHS[1:], 1):
+        script.zeros(into, length)
+    for length in TABLE_LENGTHS:
+        script.published(0)
+        script.length(0, length)
+        for into in range(1, 10):
+            script.move(0, variable, 5, into)
+            variable = 9 - variable
+    script.comment("into a space of the table's length")
+    script.published(0)
+    script.length(1, TABLE_LENGTH)
+    for length in TABLE_LENGTHS:
+        script.copy(0, 2)
+        script.length(2, length)
+        script.move(2, 4, 5, 1)
+        script.move(2, 4, 5, 2)
+        script.move(2, 5, 5, 2)
+
+
+# ------------------------------------------------------------- mixed defects
+
+def lay_out_defects(script, heavy_to_move):
+    """Spaces 0 to 7 for every mixture of a wrong length (1), limits that are not good (2) and a number that is too heavy (4)."""
+    for mask in range(8):
+        script.limits(mask, NARROW_LIMITS)
+        if heavy_to_move:
+            script.set(mask, X_LOW_AAA, 9000000000000)
+        if mask & 2:
+            script.set(mask, 3, 1)          # beta lowest above its highest 0
+        if mask & 4:
+            script.set(mask, 260, I64_MIN)
+        if mask & 1:
+            script.length(mask, 310)
+
+
+def mixed_defects_of_reads(script, _):
+    lay_out_defects(script, False)
+    for mask in range(8):
+        for outside in range(32):
+            state = [2 if outside >> v & 1 else 0 for v in range(5)]
+            script.read(mask, state)
+            script.read(mask, state, 5)
+
+
+def mixed_defects_of_moves(script, _):
+    script.length(9, 310)
+    for heavy_to_move in (False, True):
+        lay_out_defects(script, heavy_to_move)
+        script.zeros(8)
+        for mask in range(8):
+            for variable in (0, 5):
+                for shift in (100, 3000):
+                    script.move(mask, variable, shift, 8)
+                    script.move(mask, variable, shift, 9)
+
+
+def mixed_defects_of_floats(script, _):
+    """Every mixture of readings that are inside, outside and not finite, and every mixture of tables' defects with some."""
+    script.published(9)
+    lay_out_defects(script, False)
+    # 0.25, -5000.5 and an infinity
+    choices = (0x3FD0000000000000, 0xC0B3888000000000, 0x7FF0000000000000)
+    for mask in range(3**5):
+        script.floats(9, [choices[mask // 3**v % 3] for v in range(5)])
+    for mask in range(8):
+        for first in range(3):
+            for last in range(3):
+                script.floats(mask, [choices[first], 0, 0, 0, choices[last]])
+
+
+def kinds_of_defects(script, _):
+    """Two and three defects of each kind together, for each operation."""
+    limit_defects = ((0, 2001), (10, -2001), (1, 1), (0, 1), (4, -1), (7, 1))
+    heavy_defects = ((11, WEIGHT_CAP + 1), (30, I64_MIN), (160, I64_MAX), (310, -WEIGHT_CAP - 1))
+    script.limits(0, NARROW_LIMITS)
+    script.length(3, 312)
+    for place, limit in limit_defects + ((None, None),):
+        for heavy_place, number in heavy_defects + ((None, None),):
+            script.copy(0, 1)
+            script.copy(0, 2)
+            if place is not None:
+                script.set(1, place, limit)
+            if heavy_place is not None:
+                script.set(1, heavy_place, number)
+            script.read(1, [2, 0, 0, 0, 0])
+            script.read(1, [0, 0, 0, 1, -1], 7)
+            script.floats(1, [0, 0x7FF8000000000000, 0, 0x4000000000000000, 0])
+            script.floats(1, [0, 0, 0x4000000000000000, 0, 0xC000000000000000])
+            script.move(1, 0, 2000, 2)
+            script.move(1, 4, -2001, 2)
+            script.move(1, 7, 1, 2)
+            script.move(1, 7, 3000, 3)
+
+
+# ------------------------------------------------------------- single numbers
+
+def smallest_number(script, _):
+    """The smallest 64-bit number is too heavy wherever it is stored, and its neighbour too."""
+    script.limits(0, NARROW_LIMITS)
+    script.zeros(2)
+    for place in range(TABLE_LENGTH):
+        script.copy(0, 1)
+        script.set(1, place, I64_MIN + place % 2)
+        script.read(1, ZEROS)
+        if place % 10 == 0:
+            script.move(1, place // 10 % 5, 0, 2)
+            script.floats(1, ZEROS)
+
+
+def single_numbers(script, _):
+    """One stored number at a time, read in either piece and moved."""
+    script.limits(0, [-9, 2, 11, -8, 12, -7, 10, -6, 13, -5, 9])
+    script.zeros(2)
+    for k in range(300):
+        script.copy(0, 1)
+        script.set(1, FIRST_BLOCK + k, 1000003)
+        script.read(1, [2, 3, -5, 7, -4])
+        script.read(1, [3, -3, 5, -6, 8])
+        script.move(1, k % 5, 3, 2)
+        script.move(1, (k + 1) % 5, -4, 2)
+
+
+def edges_of_the_limits(script, _):
+    """Limits just good and just not, and the weights that go with a reach of 1 and with each piece's reach."""
+    base = [-5, 0, 5, -5, 5, -5, 5, -5, 5, -5, 5]
+    script.limits(0, base)
+    script.zeros(2)
+    for place in range(11):
+        for limit in (-2001, -2000, 2000, 2001, 1999, -1999):
+            script.copy(0, 1)
+            script.set(1, place, limit)
+            script.read(1, ZEROS)
+            script.move(1, place % 5, 0, 2)
+    script.comment("lowest, cut and highest beside each other")
+    for lowest in (-1, 0, 1):
+        for cut in (-1, 0, 1):
+            for highest in (-1, 0, 1):
+                script.copy(0, 1)
+                for place, limit in enumerate((lowest, cut, highest)):
+                    script.set(1, place, limit)
+                script.read(1, ZEROS)
+    for v in range(1, 5):
+        for lowest, highest in ((0, 0), (1, 0), (0, -1), (-2000, 2000), (2000, 2000), (2000, -2000)):
+            script.copy(0, 1)
+            script.set(1, LOWEST[v], lowest)
+            script.set(1, HIGHEST[v], highest)
+            script.read(1, ZEROS)
+    script.comment("all limits 0 but alpha's highest: each reach is 1, and a number weighs its magnitude in any place")
+    script.limits(0, [0, 0, 1] + [0] * 8)
+    for place in range(FIRST_BLOCK, FIRST_BLOCK + BLOCK_LENGTH):
+        for number in (WEIGHT_CAP, -WEIGHT_CAP - 1):
+            script.copy(0, 1)
+            script.set(1, place, number)
+            script.read(1, ZEROS)
+    script.comment("the high piece reaches from cut + 1")
+    script.limits(0, [-4, -3, -2] + [0] * 8)
+    for place, reach in ((FIRST_BLOCK + 1, 4), (FIRST_BLOCK + 11, 2), (FIRST_BLOCK + 6, 64), (FIRST_BLOCK + 16, 8)):
+        for more in (0, 1):
+            script.copy(0, 1)
+            script.set(1, place, WEIGHT_CAP // reach + more)
+            script.read(1, with_reading(0, -3))
+            script.read(1, with_reading(0, -2))
+
+
+SECTIONS = (
+    ("Publishing", publishing),
+    ("Checked values 1 to 11", checked_values),
+    ("Readings at the limits", readings_at_the_limits),
+    ("Readings at the ends of 64 bits", readings_at_the_ends),
+    ("Shifts at the ends of 64 bits", shifts_at_the_ends),
+    ("Moves of the published table", moves_of_the_published_table),
+    ("Wrong lengths", wrong_lengths),
+    ("Mixed defects of reads", mixed_defects_of_reads),
+    ("Mixed defects of moves", mixed_defects_of_moves),
+    ("Mixed defects of reads with floats", mixed_defects_of_floats),
+    ("Two and three defects of each kind", kinds_of_defects),
+    ("The smallest number at each place", smallest_number),
+    ("Single numbers", single_numbers),
+    ("Edges of the limits", edges_of_the_limits),
+)

@@ -1,0 +1,2 @@
+def check():
+    return True, "none"
