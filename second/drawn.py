@@ -2,10 +2,11 @@
 
 from draws import I64_MAX, I64_MIN
 from makers import (
-    PROMISED_SIZES, damage, filling_place, full_number, good_limits, inside_state, last_accepted, nudge, of_sign, one_in_each_block,
-    random_table, rest_of_cap, shifted, spoil_limits, spoil_state,
+    PROMISED_SIZES, damage, filling_place, full_number, good_limits, inside_state, last_accepted, move_factor_at, nudge, of_sign,
+    one_in_each_block, random_table, rest_of_cap, shifted, spoil_limits, spoil_state,
 )
-from model import FIRST_BLOCK, PUBLISHED_TABLE
+from model import FIRST_BLOCK
+from tables import WEIGHT_CAP
 
 
 def use_table(script, gen, space):
@@ -165,6 +166,21 @@ def weights_at_the_cap(script, gen):
         script.move(1, v, gen.take(-3, 3), 2)
 
 
+def moves_at_the_cap(script, gen):
+    """The largest number at a place with which a move is accepted, and the rest of the cap beside it: just accepted, just refused."""
+    script.zeros(2)
+    for k in range(100):
+        limits = good_limits(gen)
+        variable, shift = gen.take(0, 4), gen.take(-50, 50)
+        place = FIRST_BLOCK + 3 * k + gen.take(0, 2)
+        factor = move_factor_at(limits, place, variable, shift)
+        script.limits(1, limits)
+        script.set(1, place, of_sign(gen, WEIGHT_CAP // factor))
+        for more in (0, 1):
+            script.set(1, filling_place(place), of_sign(gen, WEIGHT_CAP % factor + more))
+            script.move(1, variable, shift, 2)
+
+
 def each_block(script, gen):
     """A number in each block, sound, and then one block too heavy by itself.
 
@@ -190,5 +206,6 @@ SECTIONS = (
     ("Random tables", random_tables),
     ("Borders of moved tables", borders_of_moved_tables),
     ("Weights at the cap", weights_at_the_cap),
+    ("Moves at the cap", moves_at_the_cap),
     ("A number in each block", each_block),
 )

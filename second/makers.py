@@ -118,13 +118,28 @@ def group_and_offset(place):
     return number, offset - GROUPS[number].start
 
 
+def piece_of(place):
+    """The piece of which a place is weighed; that of a side group is weighed in both, with the same factor."""
+    return LOW_GROUP if group_and_offset(place)[0] == LOW_GROUP else HIGH_GROUP
+
+
+def product_at(radii, place):
+    number, inside = group_and_offset(place)
+    of_first, of_second = GROUPS[number].powers[inside]
+    return radii[GROUPS[number].first] ** of_first * radii[GROUPS[number].second] ** of_second
+
+
 def factor_at(limits, place):
     """The product of reaches by which the number at a place is weighed."""
-    group_number, inside = group_and_offset(place)
-    group = GROUPS[group_number]
-    radii = tables.reaches(limits, LOW_GROUP if group_number == LOW_GROUP else HIGH_GROUP)
-    of_first, of_second = group.powers[inside]
-    return radii[group.first] ** of_first * radii[group.second] ** of_second
+    return product_at(tables.reaches(limits, piece_of(place)), place)
+
+
+def move_factor_at(limits, place, variable, shift):
+    """The same for the weight by which a move is accepted or refused."""
+    radii = tables.reaches(limits, piece_of(place))
+    moved = tables.moved_limits(limits, variable, shift)
+    radii[variable] = tables.reaches(moved, piece_of(place))[variable] + abs(shift)
+    return product_at(radii, place)
 
 
 # What a term may weigh. The first make tables near the cap, on either side of it; the last make light tables that can be moved far.

@@ -1,2 +1,58 @@
+"""Shows that the script notices: each wrong model has to differ in its section from the kept answers, and the right one in none."""
+
+from contextlib import contextmanager
+
+import kept
+import tables
+from desk import SPACE_COUNT, Desk
+from wrong_models import MODELS, wrong_signs
+
+
+@contextmanager
+def replaced(changes):
+    """Each holder's attribute replaced, and nothing remembered from before, until the end of the block."""
+    before = [(holder, name, getattr(holder, name)) for holder, name, _ in changes]
+    try:
+        for holder, name, replacement in changes:
+            setattr(holder, name, replacement)
+        tables.forget()
+        yield
+    finally:
+        for holder, name, right in before:
+            setattr(holder, name, right)
+        tables.forget()
+
+
+def littered_desk():
+    """Spaces of odd lengths and numbers: a section that does not set what it uses answers otherwise."""
+    desk = Desk()
+    desk.spaces = [(7 - space,) * (31 * space % 300) for space in range(SPACE_COUNT)]
+    return desk
+
+
+def first_difference(section, command):
+    """The first line with the command (any where it is None) whose answer is another than the kept one, or None."""
+    desk = littered_desk()
+    for line, kept_answer in zip(*section):
+        answer = desk.answer(line)
+        if answer != kept_answer and command in (None, line.split(b" ")[0].decode("latin-1")):
+            return line
+    return None
+
+
+def is_noticed(model, sections):
+    with replaced(model.changes):
+        return first_difference(sections[model.section], model.command) is not None
+
+
 def check():
-    return True, "none"
+    """Whether every wrong model is noticed and the right one is not, and what to say about it."""
+    sections = kept.parted_sections()
+    signs = wrong_signs()
+    faults = ["the right model is noticed in the section: " + title for title in sections
+              if first_difference(sections[title], None) is not None]
+    faults += ["not noticed: " + model.name for model in MODELS + tuple(signs) if not is_noticed(model, sections)]
+    if faults:
+        return False, "\n".join(faults)
+    return True, "%d wrong models and %d wrong signs are noticed, the right model in none of %d sections" % (
+        len(MODELS), len(signs), len(sections))

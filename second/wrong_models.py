@@ -1,0 +1,356 @@
+"""Wrong models: what each gets wrong, and where the script has to notice it.
+
+A change puts another function, order or number in the place of the right one. Those that the requirement lists as errors that
+look right come first.
+"""
+
+from fractions import Fraction
+
+import desk
+import door
+import tables
+from door import POSITIVE_ZERO, SIGN_BIT
+from draws import I64_MIN, signed
+from model import ALPHA, BLOCK_COUNT, BLOCK_LENGTH, BETA, FIRST_BLOCK, HIGH_GROUP, PUBLISHED_LIMITS, PUBLISHED_TABLE, XI_GROUP, ZETA_GROUP
+from tables import LOWEST, HIGHEST, READING_OUTSIDE
+
+# The right functions, for wrong ones that differ from them in one respect.
+right_all_coefficients = tables.all_coefficients
+right_is_finite = door.is_finite
+right_limits_are_good = tables.limits_are_good
+right_move = tables.move
+right_moved_limits = tables.moved_limits
+right_moved_table = tables.moved_table
+right_power_moved = tables.power_moved
+right_answer_bits = door.answer_bits
+right_reaches = tables.reaches
+right_read = tables.read
+right_sums = tables.sums
+right_table_tests = tables.table_tests
+right_term_moved = tables.term_moved
+right_weights = tables.weights
+
+
+class Wrong:
+    """A name in plain words, the section and the command whose answers have to differ, and what is put in whose place."""
+
+    def __init__(self, name, section, command, *changes):
+        self.name = name
+        self.section = section
+        self.command = command
+        self.changes = changes
+
+
+def in_tables(name, replacement):
+    return tables, name, replacement
+
+
+def in_door(name, replacement):
+    return door, name, replacement
+
+
+# ---------------------------------------------------------- the published table
+
+def published_with(place, number):
+    table = PUBLISHED_TABLE[:place] + (number,) + PUBLISHED_TABLE[place + 1:]
+    return in_tables("PUBLISHED_TABLE", table)
+
+
+def wrong_signs():
+    """Each printed coefficient with the other sign."""
+    return [Wrong("the other sign at place %d of the published table" % place, "Readings at the limits", "read",
+                  published_with(place, -PUBLISHED_TABLE[place]))
+            for place in range(FIRST_BLOCK, len(PUBLISHED_TABLE)) if PUBLISHED_TABLE[place]]
+
+
+def low_and_high_exchanged():
+    table = list(PUBLISHED_TABLE)
+    for start in range(FIRST_BLOCK, len(table), BLOCK_LENGTH):
+        table[start:start + 20] = table[start + 10:start + 20] + table[start:start + 10]
+    return in_tables("PUBLISHED_TABLE", tuple(table))
+
+
+# ---------------------------------------------------------------------- moves
+
+def cut_moved_the_other_way(limits, variable, shift):
+    moved = right_moved_limits(limits, variable, shift)
+    if variable == ALPHA:
+        moved[1] = limits[1] + shift
+    return moved
+
+
+def pure_places_dropped(p, q, moves_first, shift):
+    """What a move of the second variable throws into the places without it is lost."""
+    return [term for term in right_term_moved(p, q, moves_first, shift) if moves_first or q == 0 or term[1] > 0]
+
+
+def only_moved_table_weighed(table, variable, shift):
+    return max(right_weights(right_moved_table(table, variable, shift))) > tables.WEIGHT_CAP
+
+
+def limits_moved_once(limits, variable, shift):
+    """The envelope goes along with the first move only."""
+    return right_moved_limits(limits, variable, shift) if tuple(limits) == PUBLISHED_LIMITS else list(limits)
+
+
+def row_of_four_wrong(power, shift):
+    return [(kept, factor * 4 // 6 if (power, kept) == (4, 2) else factor) for kept, factor in right_power_moved(power, shift)]
+
+
+def weighed_at_old_reach(table, variable, shift):
+    limits, stored = tables.limits_of(table), tables.magnitudes(table)
+    found = []
+    for piece in tables.PIECES:
+        radii = right_reaches(limits, piece)
+        radii[variable] += abs(shift)
+        found += right_sums(stored, piece, radii)
+    return found
+
+
+def refused_move_writes_limits(table, variable, shift, output):
+    number = right_move(table, variable, shift, output)
+    if number == tables.MOVE_TOO_HEAVY:
+        output[:FIRST_BLOCK] = right_moved_limits(table[:FIRST_BLOCK], variable, shift)
+    return number
+
+
+def groups_of_variable(without, variable=None):
+    """The groups that a move multiplies out, one left out, in every variable or in one."""
+    right = tables.moved_groups
+    return lambda v: [group for group in right(v) if group != without or v not in (variable, v if variable is None else variable)]
+
+
+# -------------------------------------------------------------------- weights
+
+def high_reach_from_cut(limits, piece):
+    radii = right_reaches(limits, piece)
+    if piece == HIGH_GROUP:
+        radii[ALPHA] = tables.reach_between(limits[1], limits[2])
+    return radii
+
+
+def smallest_is_its_own_magnitude(table):
+    return [number if number == I64_MIN else abs(number) for number in table]
+
+
+def wrapped_weights(table):
+    return [signed(weight) for weight in right_weights(table)]
+
+
+def last_block_not_weighed(table):
+    return right_weights(table[:FIRST_BLOCK + BLOCK_LENGTH * (BLOCK_COUNT - 1)])
+
+
+def rudder_not_weighed(table):
+    return right_weights(without_rudder(table))
+
+
+def without_rudder(table):
+    changed = list(table)
+    for block in range(BLOCK_COUNT):
+        changed[tables.PARTS[block][ZETA_GROUP]] = [0] * 15
+    return changed
+
+
+def blocks_weighed_together(table):
+    """A quick test taken for the whole: the largest magnitude of each place, over all blocks."""
+    largest = [max(abs(number) for number in table[place::BLOCK_LENGTH]) for place in range(FIRST_BLOCK, FIRST_BLOCK + BLOCK_LENGTH)]
+    return right_weights(list(table[:FIRST_BLOCK]) + largest * BLOCK_COUNT)
+
+
+# --------------------------------------------------------------------- limits
+
+def lowest_below_cut(limits):
+    return right_limits_are_good(limits) and limits[0] < limits[1]
+
+
+def cut_at_highest(limits):
+    return right_limits_are_good(limits) or limits[1] == limits[2] and right_limits_are_good(limits[:1] + [limits[0]] + limits[2:])
+
+
+def others_not_single(limits):
+    return right_limits_are_good(limits) and all(limits[LOWEST[v]] < limits[HIGHEST[v]] for v in range(1, 5))
+
+
+def ends_excluded(table, variable, reading):
+    return not table[LOWEST[variable]] < reading < table[HIGHEST[variable]]
+
+
+# -------------------------------------------------------------------- lengths
+
+def with_test(number, holds):
+    """A table's tests with one of them made otherwise."""
+    return in_tables("table_tests", lambda table: {**right_table_tests(table), number: lambda: holds(table)})
+
+
+def room_not_checked(table, readings, output):
+    room = output[:6]
+    number = right_read(table, readings, room) if len(output) > 6 else right_read(table, readings, output)
+    output[:6] = room
+    return number
+
+
+def publish_into_longer(output):
+    if len(output) < len(PUBLISHED_TABLE):
+        return tables.WRONG_OUTPUT_LENGTH
+    output[:len(PUBLISHED_TABLE)] = PUBLISHED_TABLE
+    return tables.DONE
+
+
+def low_half(number):
+    """The low 32 bits, read as a signed number."""
+    number &= 0xFFFFFFFF
+    return number - (1 << 32) if number >> 31 else number
+
+
+# --------------------------------------------------------------------- floats
+
+def halves_away(value):
+    rounded = int(abs(value) + Fraction(1, 2))
+    return -rounded if value < 0 else rounded
+
+
+def piece_before_rounding(table, reading_bits):
+    """Alpha is held against the cut as it was given."""
+    readings = [door.whole_reading(bits) for bits in reading_bits]
+    piece = tables.piece_at(table, door.exact_value(reading_bits[ALPHA]))
+    return [door.answer_bits(number) for number in right_sums(table, piece, readings)]
+
+
+def outside_before_rounding(table, variable, bits):
+    return tables.is_outside(table, variable, door.exact_value(bits))
+
+
+def rounded_handed_back(number, reading_bits):
+    if number not in READING_OUTSIDE:
+        return POSITIVE_ZERO
+    return door.nearest_bits(Fraction(door.whole_reading(reading_bits[READING_OUTSIDE.index(number)])))
+
+
+def one_rounding_only(number):
+    return door.nearest_bits(Fraction(number, door.ANSWER_UNIT))
+
+
+def zero_is_negative(number):
+    return right_answer_bits(number) if number else SIGN_BIT
+
+
+def answer_cut_off(number):
+    """The answer's whole number is cut to 53 bits, not rounded."""
+    excess = max(0, abs(number).bit_length() - 53)
+    whole = abs(number) >> excess << excess
+    return door.nearest_bits(Fraction(-whole if number < 0 else whole, door.ANSWER_UNIT))
+
+
+def nan_let_through(bits):
+    return right_is_finite(bits) or bits & door.FRACTION_MASK != 0
+
+
+def quiet_nan_alone_noticed(bits):
+    return right_is_finite(bits) or bits & door.FRACTION_MASK != 0 and not bits >> 51 & 1
+
+
+def interleaved(first, second):
+    return tuple(number for pair in zip(first, second) for number in pair)
+
+
+# ----------------------------------------------------------------------- desk
+
+def changed_after_refusal(self, into, operation):
+    room = desk.lent(len(self.spaces[into]))
+    number = operation(room)
+    self.spaces[into] = tuple(room)
+    return desk.refusal(number, room) if number else "0 wrote %d sum %d" % (len(room), desk.checksum(tuple(room)))
+
+
+READ_TESTS = (1, 2, 3, 4)
+MODELS = (
+    # errors that look right
+    Wrong("the published cut at 314", "Readings at the limits", "read", published_with(1, 314)),
+    Wrong("alpha below the cut asked for the low piece", "Readings at the limits", "read",
+          in_tables("piece_at", lambda table, alpha: 0 if alpha < table[1] else 1)),
+    Wrong("the cut left behind by a move", "The published table moved", "read",
+          in_tables("LIMIT_PLACES", ((0, 2),) + tables.LIMIT_PLACES[1:])),
+    Wrong("the cut moved the other way", "The published table moved", "read", in_tables("moved_limits", cut_moved_the_other_way)),
+    Wrong("what a move throws into the pure places dropped", "The published table moved", "read",
+          in_tables("term_moved", pure_places_dropped)),
+    Wrong("only the moved table weighed", "Borders of moved tables", "move", in_tables("move_is_too_heavy", only_moved_table_weighed)),
+    Wrong("a reach of 0", "Edges of the limits", "read", in_tables("reach_between", lambda low, high: max(abs(low), abs(high)))),
+    # the published table
+    Wrong("the low and the high group exchanged", "Readings at the limits", "read", low_and_high_exchanged()),
+    # moves
+    Wrong("a move that copies the table", "Composed moves", "move",
+          in_tables("moved_table", lambda table, variable, shift: list(table))),
+    Wrong("the polynomials moved the other way", "The published table moved", "read",
+          in_tables("power_moved", lambda power, shift: right_power_moved(power, -shift))),
+    Wrong("the limits moved the other way", "The published table moved", "read",
+          in_tables("moved_limits", lambda limits, variable, shift: right_moved_limits(limits, variable, -shift))),
+    Wrong("the limits left behind by a second move", "Composed moves", "read", in_tables("moved_limits", limits_moved_once)),
+    Wrong("a wrong number in the row of the fourth power", "Single numbers", "move", in_tables("power_moved", row_of_four_wrong)),
+    Wrong("the high group not moved", "The published table moved", "read", in_tables("moved_groups", groups_of_variable(HIGH_GROUP))),
+    Wrong("the rudder group not moved with beta", "The published table moved", "read",
+          in_tables("moved_groups", groups_of_variable(ZETA_GROUP, BETA))),
+    Wrong("a refused move that writes limits", "Checked values 1 to 11", "move", in_tables("move", refused_move_writes_limits)),
+    Wrong("a move weighed at the old reach", "Moves at the cap", "move", in_tables("move_weights", weighed_at_old_reach)),
+    Wrong("a move weighed by its shift and not its size", "Moves at the cap", "move", in_tables("move_reach", lambda reach, shift: reach + shift)),
+    Wrong("the cap of a move one higher", "Moves at the cap", "move", in_tables("MOVE_WEIGHT_CAP", tables.WEIGHT_CAP + 1)),
+    Wrong("the cap of a move one lower", "Moves at the cap", "move", in_tables("MOVE_WEIGHT_CAP", tables.WEIGHT_CAP - 1)),
+    Wrong("a variable cut to 32 bits", "Moves of the published table", "move",
+          in_tables("move", lambda table, variable, shift, output: right_move(table, variable & 0xFFFFFFFF, shift, output))),
+    Wrong("a shift cut to 32 bits", "Shifts at the ends of 64 bits", "move",
+          in_tables("move", lambda table, variable, shift, output: right_move(table, variable, low_half(shift), output))),
+    # weights
+    Wrong("the cap one higher", "Weights at the cap", "read", in_tables("WEIGHT_CAP", tables.WEIGHT_CAP + 1)),
+    Wrong("the cap one lower", "Weights at the cap", "read", in_tables("WEIGHT_CAP", tables.WEIGHT_CAP - 1)),
+    Wrong("the high piece's reach from the cut", "Edges of the limits", "read", in_tables("reaches", high_reach_from_cut)),
+    Wrong("the high piece not weighed", "The smallest number at each place", "read",
+          in_tables("weights", lambda table: right_weights(table)[:BLOCK_COUNT])),
+    Wrong("the last block not weighed", "The smallest number at each place", "read", in_tables("weights", last_block_not_weighed)),
+    Wrong("the rudder group not weighed", "Weights at the cap", "read", in_tables("weights", rudder_not_weighed)),
+    Wrong("all blocks weighed as one", "A number in each block", "read", in_tables("weights", blocks_weighed_together)),
+    Wrong("weights modulo 2^64", "Weights at the cap", "read", in_tables("weights", wrapped_weights)),
+    Wrong("the smallest number without a magnitude", "The smallest number at each place", "read",
+          in_tables("magnitudes", smallest_is_its_own_magnitude)),
+    # limits and readings
+    Wrong("limits up to 2001", "Edges of the limits", "read", in_tables("LIMIT_CAP", 2001)),
+    Wrong("limits up to 1999", "Edges of the limits", "read", in_tables("LIMIT_CAP", 1999)),
+    Wrong("the lowest has to be below the cut", "Edges of the limits", "read", in_tables("limits_are_good", lowest_below_cut)),
+    Wrong("the cut may be the highest", "Edges of the limits", "read", in_tables("limits_are_good", cut_at_highest)),
+    Wrong("a single reading is no range", "Edges of the limits", "read", in_tables("limits_are_good", others_not_single)),
+    Wrong("the ends of the limits excluded", "Readings at the limits", "read", in_tables("is_outside", ends_excluded)),
+    Wrong("a reading cut to 32 bits", "Readings at the ends of 64 bits", "read",
+          in_tables("read", lambda table, readings, output: right_read(table, [low_half(reading) for reading in readings], output))),
+    Wrong("the rudder group not read", "Single numbers", "read", in_tables("SIDE_GROUPS", (XI_GROUP,))),
+    Wrong("X repeated for the other five", "Readings at the limits", "read",
+          in_tables("all_coefficients", lambda table, readings: right_all_coefficients(table, readings)[:1] * 6)),
+    # lengths
+    Wrong("a longer table taken", "Wrong lengths", "read", with_test(tables.WRONG_TABLE_LENGTH, lambda table: len(table) < 311)),
+    Wrong("a table without its last number taken", "Wrong lengths", "read",
+          with_test(tables.WRONG_TABLE_LENGTH, lambda table: len(table) not in (310, 311))),
+    Wrong("a longer room taken by a read", "Wrong lengths", "read", in_tables("read", room_not_checked)),
+    Wrong("a longer room taken by publishing", "Publishing", "publish", in_tables("publish", publish_into_longer)),
+    # the order of refusals
+    Wrong("a read's room before its table's length", "Mixed defects of reads", "read", in_tables("READ_ORDER", (2, 1, 3, 4) + READING_OUTSIDE)),
+    Wrong("a read's weight before its limits", "Mixed defects of reads", "read", in_tables("READ_ORDER", (1, 2, 4, 3) + READING_OUTSIDE)),
+    Wrong("the last reading outside given", "Mixed defects of reads", "read", in_tables("READ_ORDER", READ_TESTS + READING_OUTSIDE[::-1])),
+    Wrong("a move's variable behind its table", "Mixed defects of moves", "move", in_tables("MOVE_ORDER", (1, 2, 3, 4, 5, 6, 7))),
+    Wrong("a move's weight before its limits", "Mixed defects of moves", "move", in_tables("MOVE_ORDER", (1, 2, 5, 3, 4, 7, 6))),
+    Wrong("outside before not finite", "Mixed defects of reads with floats", "floats",
+          in_door("DOOR_ORDER", (1, 3, 4) + READING_OUTSIDE + door.NOT_FINITE)),
+    Wrong("not finite asked reading by reading", "Mixed defects of reads with floats", "floats",
+          in_door("DOOR_ORDER", (1, 3, 4) + interleaved(door.NOT_FINITE, READING_OUTSIDE))),
+    # floats
+    Wrong("halves rounded away from zero", "Checked values 12 and 13", "floats", in_door("whole_reading", lambda bits: halves_away(door.exact_value(bits)))),
+    Wrong("readings cut off and not rounded", "Floats at the limits and their halves", "floats",
+          in_door("whole_reading", lambda bits: int(door.exact_value(bits)))),
+    Wrong("the piece chosen before rounding", "Floats at the limits and their halves", "floats", in_door("six_answers", piece_before_rounding)),
+    Wrong("outside asked before rounding", "Floats at the limits and their halves", "floats", in_door("float_is_outside", outside_before_rounding)),
+    Wrong("the rounded reading handed back", "Floats at the limits and their halves", "floats", in_door("handed_back_with", rounded_handed_back)),
+    Wrong("a NaN let through", "Every kind of NaN", "floats", in_door("is_finite", nan_let_through)),
+    Wrong("only a quiet NaN noticed", "Every kind of NaN", "floats", in_door("is_finite", quiet_nan_alone_noticed)),
+    Wrong("answers divided without rounding them first", "Drawn floats of tables near the cap", "floats", in_door("answer_bits", one_rounding_only)),
+    Wrong("answers cut off and not rounded", "Drawn floats of the published table", "floats", in_door("answer_bits", answer_cut_off)),
+    Wrong("a zero answered as negative zero", "Mixed defects of reads with floats", "floats", in_door("answer_bits", zero_is_negative)),
+    # the desk
+    Wrong("a space changed by a refusal", "Moves into the same space, and wrong rooms", "sum", (desk.Desk, "write", changed_after_refusal)),
+)
