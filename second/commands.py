@@ -124,8 +124,8 @@ def same_space(script, _):
     """A move into the space that it is read from, accepted and refused; a space changes only with a 0."""
     known_spaces(script)
     script.publish(0)
-    for v, shift in ((0, 100), (1, -50), (2, 30), (3, 77), (4, -99), (0, 3000), (3, 10**6), (5, 0), (2, 1500), (0, -100), (1, 50), (2, -30),
-                     (3, -77), (4, 99)):
+    for v, shift in ((0, 100), (1, -50), (2, 30), (3, 77), (4, -99), (0, 3000), (3, 10**6), (5, 0), (2, 1500),
+                     (0, -100), (1, 50), (2, -30), (3, -77), (4, 99)):
         script.move(0, v, shift, 0)
         script.sum(0)
         script.show(0, 0, 16)
@@ -189,12 +189,17 @@ def reasons_in_their_order(script, _):
     """Lines with two and three reasons; the first in the order is given."""
     known_spaces(script)
     for line in (
-        b"publish 10 x", b"publish x", b"publsh 10", b"move 10 x 0 0", b"move 10 9 0 10", b"move 0 x 0 10", b"move 10 0 0", b"move 10 0 0 0 0",
-        b"read 10 321 0 0 0 0 0", b"read 0 321 0 0 0 0 0", b"read 10 321 0 0 0 0 x", b"read 10 321 0 0 0 0", b"floats 10 0 0 0 0 x",
-        b"floats 10 7ff0000000000000 0 0 0 0", b"length 10 321", b"length 10 x", b"length 0 321 0", b"set 10 400 1", b"set 10 400 x", b"set 0 400 x",
-        b"set 0 400 1", b"fill 10 400 1 1 1", b"fill 0 400 1 1 x", b"fill 0 311 1 1 1", b"copy 10 x", b"copy 10 10", b"copy x 10", b"show 10 0 312",
-        b"show 0 312 x", b"show 0 0 312", b"sum 10 0", b"sum x", b"sum 10", b"smu 10", b"sum 10" + b" " * 250, b"sum 10" + b" " * 251,
-        b"smu" + b" " * 253, b"smu" + b" " * 254,
+        b"publish 10 x", b"publish x", b"publsh 10",
+        b"move 10 x 0 0", b"move 10 9 0 10", b"move 0 x 0 10", b"move 10 0 0", b"move 10 0 0 0 0",
+        b"read 10 321 0 0 0 0 0", b"read 0 321 0 0 0 0 0", b"read 10 321 0 0 0 0 x", b"read 10 321 0 0 0 0",
+        b"floats 10 0 0 0 0 x", b"floats 10 7ff0000000000000 0 0 0 0",
+        b"length 10 321", b"length 10 x", b"length 0 321 0",
+        b"set 10 400 1", b"set 10 400 x", b"set 0 400 x", b"set 0 400 1",
+        b"fill 10 400 1 1 1", b"fill 0 400 1 1 x", b"fill 0 311 1 1 1",
+        b"copy 10 x", b"copy 10 10", b"copy x 10",
+        b"show 10 0 312", b"show 0 312 x", b"show 0 0 312",
+        b"sum 10 0", b"sum x", b"sum 10", b"smu 10",
+        b"sum 10" + b" " * 250, b"sum 10" + b" " * 251, b"smu" + b" " * 253, b"smu" + b" " * 254,
     ):
         script.line(line)
     sum_all(script)
@@ -226,9 +231,14 @@ def long_lines(script, _):
 
 def lines_without_words(script, _):
     known_spaces(script)
-    for line in (b"", b" ", b"  ", b" " * 100, b"", b"#", b"##", b"# ", b"#x", b"# a comment", b" # a comment", b"   #   a   comment   ", b"#sum 0",
-                 b" #sum 0 ", b"sum 0 # no comment", b"sum # 0", b"# \xff\x80\x00\x01 bytes \t of any kind \r", b"# caf\xc3\xa9", b"#\t", b"\t", b"\t# no comment",
-                 b"\r", b"\x00", b"\x00sum 0", b"\x0b", b"\x0c", b"\xa0", b"\xc2\xa0", b"\xef\xbb\xbfsum 0", b"\x85", b"\x1f", b"!", b"?", b"-", b"0"):
+    for line in (
+        b"", b" ", b"  ", b" " * 100, b"",
+        b"#", b"##", b"# ", b"#x", b"# a comment", b" # a comment", b"   #   a   comment   ", b"#sum 0", b" #sum 0 ",
+        b"sum 0 # no comment", b"sum # 0",
+        b"# \xff\x80\x00\x01 bytes \t of any kind \r", b"# caf\xc3\xa9", b"#\t",
+        b"\t", b"\t# no comment", b"\r", b"\x00", b"\x00sum 0", b"\x0b", b"\x0c", b"\xa0", b"\xc2\xa0", b"\xef\xbb\xbfsum 0", b"\x85",
+        b"\x1f", b"!", b"?", b"-", b"0",
+    ):
         script.line(line)
 
 
@@ -238,11 +248,12 @@ def names_of_commands(script, _):
     for name in COMMANDS:
         words = fine_line(name)
         line = b" ".join(words)
-        for odd in (name[:-1], name + b"s", name.upper(), name.capitalize(), name[1:], b"x" + name, name + b"\x00", name + b"\r", name + b"\xff",
-                    b"?" + name, bytes([name[0] | 0x80]) + name[1:]):
+        for odd in (name[:-1], name + b"s", name.upper(), name.capitalize(), name[1:], b"x" + name, name + b"\x00", name + b"\r",
+                    name + b"\xff", b"?" + name, bytes([name[0] | 0x80]) + name[1:]):
             script.line(with_word(words, 0, odd))
-        for parted in (line.replace(b" ", b"\t"), line.replace(b" ", b"  "), b"  " + line + b"   ", line.replace(b" ", b"\xa0"), line + b"\r",
-                       line + b"\t", b"\t" + line, line.replace(b" ", b", "), line.replace(b" ", b"\x00", 1), line.replace(b" ", b"", 1)):
+        for parted in (line.replace(b" ", b"\t"), line.replace(b" ", b"  "), b"  " + line + b"   ", line.replace(b" ", b"\xa0"),
+                       line + b"\r", line + b"\t", b"\t" + line, line.replace(b" ", b", "), line.replace(b" ", b"\x00", 1),
+                       line.replace(b" ", b"", 1)):
             script.line(parted)
     script.line(b"sum 00000000000000000000000000000000000000009")
     script.line(b"   sum    9")

@@ -2,8 +2,8 @@
 
 from draws import I64_MAX, I64_MIN
 from makers import (
-    PROMISED_SIZES, damage, filling_place, full_number, good_limits, inside_state, last_accepted, move_factor_at, nudge, of_sign,
-    one_in_each_block, random_table, rest_of_cap, shifted, spoil_limits, spoil_state,
+    PROMISED_SIZES, damage, filling_place, full_number, good_limits, inside_float_state, inside_state, last_accepted, move_factor_at, nudge,
+    of_sign, one_in_each_block, random_table, rest_of_cap, shifted, spoil_limits, spoil_state,
 )
 from model import FIRST_BLOCK
 from tables import WEIGHT_CAP
@@ -160,7 +160,9 @@ def weights_at_the_cap(script, gen):
         read_with(script, gen, place, size + 1)
         read_with(script, gen, place, size)
         read_with(script, gen, filling, rest + 1)
+        script.floats(1, inside_float_state(gen, script.table(1)))
         read_with(script, gen, filling, rest)
+        script.floats(1, inside_float_state(gen, script.table(1)))
         v = gen.take(0, 4)
         script.move(1, v, 0, 2)
         script.move(1, v, gen.take(-3, 3), 2)

@@ -238,16 +238,18 @@ def kinds_of_defects(script, _):
 # ------------------------------------------------------------- single numbers
 
 def smallest_number(script, _):
-    """The smallest 64-bit number is too heavy wherever it is stored, and its neighbour too."""
+    """The smallest 64-bit number is too heavy wherever it is stored."""
     script.limits(0, NARROW_LIMITS)
     script.zeros(2)
     for place in range(TABLE_LENGTH):
         script.copy(0, 1)
-        script.set(1, place, I64_MIN + place % 2)
+        script.set(1, place, I64_MIN)
         script.read(1, ZEROS)
         if place % 10 == 0:
             script.move(1, place // 10 % 5, 0, 2)
             script.floats(1, ZEROS)
+            script.set(1, place, I64_MIN + 1)
+            script.read(1, ZEROS)
 
 
 def single_numbers(script, _):

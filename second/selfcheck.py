@@ -6,28 +6,47 @@ Run it alone; it ends with one line when every assertion holds.
 import struct
 from fractions import Fraction
 
+import desk
 import door
 import tables
 import trimcard
-from book import Generator, canary_list
+from desk import lent
+from draws import Generator
 from makers import (
-    NARROW_LIMITS, SPECIAL_BITS, filling_place, full_number, good_limits,
-    inside_float_state, inside_state, one_in_each_block, random_table,
-    rest_of_cap, shifted, with_place, with_reading, zero_table,
+    NARROW_LIMITS, SPECIAL_BITS, filling_place, full_number, good_limits, inside_float_state, inside_state, move_factor_at,
+    one_in_each_block, random_table, rest_of_cap, shifted, with_reading,
 )
-from model import (
-    BLOCK_COUNT, FIRST_BLOCK, GROUPS, PRINTED, PUBLISHED_TABLE, parse_polynomial,
-    place_of,
-)
+from model import BLOCK_COUNT, EQUATIONS_OF_BLOCK, FIRST_BLOCK, GROUPS, PRINTED, PUBLISHED_TABLE, parse_polynomial, place_of
+from script import Script
 
 X, Y, Z, L, M, N = range(6)
 T = PUBLISHED_TABLE
 
 
+def zero_table(limits):
+    return tuple(limits) + (0,) * 300
+
+
+def with_place(table, place, value):
+    return table[:place] + (value,) + table[place + 1:]
+
+
+def soundness(table):
+    """0, 3 or 4 for a table of the right length."""
+    return tables.first_that_holds(tables.READ_ORDER[2:4], tables.table_tests(table))
+
+
+def made(maker, *arguments):
+    """The table that a maker leaves in a space."""
+    script = Script()
+    maker(script, *arguments)
+    return script.table(0)
+
+
 def read(table, readings):
-    output = canary_list(6)
+    output = lent(6)
     number = tables.read(table, readings, output)
-    assert number == 0 or output == canary_list(6)
+    assert number == 0 or output == lent(6)
     return number, output
 
 
@@ -38,10 +57,10 @@ def value(table, coefficient, readings):
 
 
 def move(table, variable, shift):
-    output = canary_list(311)
+    output = lent(311)
     number = tables.move(table, variable, shift, output)
-    assert number == 0 or output == canary_list(311)
-    return number, output
+    assert number == 0 or output == lent(311)
+    return number, tuple(output)
 
 
 def bits_of_float(number):
@@ -76,6 +95,27 @@ def check_printed_text():
     assert [len(group.powers) for group in GROUPS] == [10, 10, 15, 15]
 
 
+def printed_value(equations, readings):
+    """The sum of printed equations at readings in radians, in units of 10^-17."""
+    total = Fraction(0)
+    for equation in equations:
+        for powers, value in parse_polynomial(PRINTED[equation]).items():
+            for reading, power in zip(readings, powers):
+                value *= Fraction(reading, 1000) ** power
+            total += value
+    return total * 10**17
+
+
+def check_published_reads():
+    """Reads of the published table against the printed equations themselves, term by term in radians."""
+    gen = Generator(105)
+    for _ in range(60):
+        state = inside_state(gen, T)
+        for block, (low, high, aileron, rudder) in enumerate(EQUATIONS_OF_BLOCK):
+            piece = low if state[0] <= 313 else high
+            assert value(T, block, state) == printed_value(piece + aileron + rudder, state)
+
+
 def check_values_1_to_7():
     number, output = read(T, [0] * 5)
     assert number == 0
@@ -97,7 +137,7 @@ def check_values_1_to_7():
 def check_values_8_and_9():
     number, moved = move(T, 0, 100)
     assert number == 0
-    assert moved[:3] == [-250, 213, 900] and moved[3:11] == list(T[3:11])
+    assert moved[:3] == (-250, 213, 900) and moved[3:11] == T[3:11]
     for powers, stored in (((0, 0), 3504 * 10**12), ((1, 0), 52700 * 10**9),
                            ((2, 0), -194800 * 10**6), ((3, 0), -1148000 * 10**3)):
         assert moved[place_of(X, 0, powers)] == stored
@@ -108,11 +148,10 @@ def check_values_8_and_9():
 def check_values_10_and_11():
     for limits in (T[:11], NARROW_LIMITS):
         lone = with_place(zero_table(limits), 11, 9 * 10**18)
-        assert tables.soundness(lone) == 0
-        lone[11] += 1
-        assert tables.soundness(lone) == 4 and read(lone, [0] * 5)[0] == 4
+        assert soundness(lone) == 0
+        assert soundness(with_place(lone, 11, 9 * 10**18 + 1)) == 4
     narrow = with_place(zero_table(NARROW_LIMITS), place_of(X, 0, (3, 0)), 9 * 10**12)
-    assert tables.soundness(narrow) == 0 and move(narrow, 0, 0)[0] == 0
+    assert soundness(narrow) == 0 and move(narrow, 0, 0)[0] == 0
     assert move(narrow, 0, 100)[0] == 7 and move(narrow, 0, -100)[0] == 7
 
 
@@ -170,7 +209,7 @@ def check_promised_moves():
             assert move(T, variable, shift)[0] == 0
         for shift in (-size, size):
             number, moved = move(T, variable, shift)
-            assert number == 0 and tables.soundness(moved) == 0
+            assert number == 0 and soundness(moved) == 0
 
 
 def check_one_move(gen, table, variable, shift):
@@ -178,7 +217,7 @@ def check_one_move(gen, table, variable, shift):
     number, moved = move(table, variable, shift)
     if number != 0:
         return False
-    assert tables.soundness(moved) == 0
+    assert soundness(moved) == 0
     assert all(-(1 << 63) <= x < 1 << 63 for x in moved)
     for _ in range(3):
         state = inside_state(gen, table)
@@ -187,7 +226,7 @@ def check_one_move(gen, table, variable, shift):
         assert (read(table, outside)[0]
                 == read(moved, shifted(outside, variable, shift))[0])
     back, restored = move(moved, variable, -shift)
-    assert back in (0, 7) and (back == 7 or restored == list(table))
+    assert back in (0, 7) and (back == 7 or restored == table)
     again = gen.take(-50, 50)
     second, twice = move(moved, variable, again)
     at_once, direct = move(table, variable, shift + again)
@@ -211,13 +250,13 @@ def check_moves():
         variable = gen.take(0, 4)
         accepted += check_one_move(gen, T, variable, gen.take(-300, 300))
     for _ in range(120):
-        table = random_table(gen)
+        table = made(random_table, gen, 0)
         variable = gen.take(0, 4)
         accepted += check_one_move(gen, table, variable, gen.take(-200, 200))
     assert accepted > 120
     for _ in range(60):
-        table = random_table(gen)
-        sound = tables.soundness(table)
+        table = made(random_table, gen, 0)
+        sound = soundness(table)
         assert sound in (0, 4)
         for variable in range(5):
             number, same = move(table, variable, 0)
@@ -228,17 +267,17 @@ def check_refusal_order():
     bad = with_place(T, 3, 501)
     assert tables.read(T[:310], [0] * 5, []) == 1
     assert tables.read(bad, [0] * 5, []) == 2
-    assert tables.read(bad, [1001] * 5, canary_list(6)) == 3
+    assert tables.read(bad, [1001] * 5, lent(6)) == 3
     heavy = with_place(T, 310, -(1 << 63))
-    assert tables.read(heavy, [1001] * 5, canary_list(6)) == 4
-    assert tables.publish(canary_list(310)) == 2
+    assert tables.read(heavy, [1001] * 5, lent(6)) == 4
+    assert tables.publish(lent(310)) == 2
     assert tables.move(T[:310], 9, 0, []) == 1
     assert tables.move(bad, 9, 0, []) == 2
-    assert tables.move(bad, 9, 0, canary_list(311)) == 5
-    assert tables.move(bad, 0, 5000, canary_list(311)) == 3
-    assert tables.move(heavy, 0, 5000, canary_list(311)) == 4
+    assert tables.move(bad, 9, 0, lent(311)) == 5
+    assert tables.move(bad, 0, 5000, lent(311)) == 3
+    assert tables.move(heavy, 0, 5000, lent(311)) == 4
     for place in range(FIRST_BLOCK, 311):
-        assert tables.soundness(with_place(zero_table(NARROW_LIMITS), place,
+        assert soundness(with_place(zero_table(NARROW_LIMITS), place,
                                            -(1 << 63))) == 4
 
 
@@ -252,10 +291,23 @@ def check_tables_at_cap():
         lone = with_place(zero_table(limits), place, -size)
         full = with_place(lone, filling, rest)
         assert max(tables.weights(full)) == 9 * 10**18
-        assert tables.soundness(full) == tables.soundness(lone) == 0
-        assert tables.soundness(with_place(full, filling, -rest - 1)) == 4
-        assert tables.soundness(with_place(lone, place, size + 1)) == 4
-        assert tables.soundness(one_in_each_block(gen, limits, place % 3)) == 0
+        assert soundness(full) == soundness(lone) == 0
+        assert soundness(with_place(full, filling, -rest - 1)) == 4
+        assert soundness(with_place(lone, place, size + 1)) == 4
+        assert soundness(made(one_in_each_block, gen, 0, limits, place % 3)) == 0
+
+
+def check_moves_at_cap():
+    """A number whose move weighs the cap is moved, and one more is refused."""
+    gen = Generator(106)
+    for place in range(FIRST_BLOCK, 311, 7):
+        limits = good_limits(gen)
+        variable, shift = gen.take(0, 4), gen.take(-30, 30)
+        factor = move_factor_at(limits, place, variable, shift)
+        lone = with_place(zero_table(limits), place, 9 * 10**18 // factor)
+        full = with_place(lone, filling_place(place), 9 * 10**18 % factor)
+        assert max(tables.move_weights(full, variable, shift)) == 9 * 10**18
+        assert move(full, variable, shift)[0] in (0, 6)
 
 
 def check_float_reads():
@@ -288,11 +340,56 @@ def check_line_program():
         assert trimcard.run(given) == answer
 
 
+def check_draws():
+    """The first steps of this xorshift from 1, as they are known, and what fill makes of them."""
+    known = [1082269761, 1152992998833853505, 11177516664432764457, 17678023832001937445]
+    s, steps = 1, []
+    for _ in known:
+        s = desk.stepped(s)
+        steps.append(s)
+    assert steps == known
+    signs = [1, 1, -1, -1]              # the last two are at least 2^63
+    assert desk.filled((0,) * 4, 0, 1, 1000, 1) == tuple(sign * (s % 2**63 % 1000) for sign, s in zip(signs, known))
+    assert desk.filled((5,) * 4, 1, 2, 1000, 1) == (5, 761, 5, 505) and desk.filled((5,) * 4, 1, 0, 1000, 1) == (5, 761, 5, 5)
+    assert desk.checksum(()) == 1 and desk.checksum((0,)) == known[0] and desk.checksum((5, 0)) == desk.stepped(known[0] + 5)
+
+
+VANE = b"""publish 0
+move 0 0 -35 1
+read 1 6 135 0 0 0 0
+read 1 6 1036 0 0 0 0
+floats 1 4060eccccccccccd 0 0 0 0
+"""
+
+
+def check_desk():
+    """The vane on the wing as a script, and lines that are not understood."""
+    answers = desk.run(VANE).split(b"\n")
+    assert answers[0].startswith(b"0 wrote 311 sum ") and answers[1].startswith(b"0 wrote 311 sum ")
+    assert answers[2].split()[5] == b"-13507000000000000" and answers[3] == b"11 untouched"
+    assert answers[4].split()[6] == b"%x" % bits_of_float(-0.13507) and answers[5:] == [b""]
+    use = b"? use: sum SPACE\n"
+    for given, answer in (
+        (b"", b""), (b"\n", b"\n"), (b" \n\n", b"\n\n"), (b"# x", b"# x\n"), (b"  #x  \n", b"  #x  \n"),
+        (b"sum", use), (b"sum 0 0", use), (b"sum -0", use), (b"sum 18446744073709551616", use),
+        (b"sum 10", b"? the spaces are 0 to 9\n"), (b"sum 18446744073709551615", b"? the spaces are 0 to 9\n"),
+        (b"Sum 0", b"? no such command\n"), (b"sum\t0", b"? no such command\n"),
+        (b"length 0 320\nlength 0 321", b"ok\n? there is room for 320 numbers\n"),
+        (b"read 0 321 0 0 0 0 0", b"? there is room for 320 numbers\n"),
+        (b"set 0 311 1\nset 0 310 -0\nset 0 310 -9223372036854775809", b"? no such place\nok\n? use: set SPACE PLACE NUMBER\n"),
+        (b"show 0 311 0\nshow 0 311 1\nshow 0 0 3", b"\n? no such place\n0 0 0\n"),
+        (b"length 0 2\nset 0 1 7\ncopy 0 3\nlength 3 4\nshow 3 0 4", b"ok\nok\nok\nok\n0 7 0 0\n"),
+        (b"floats 0 g 0 0 0 0", b"? use: floats SPACE ALPHA BETA XI ETA ZETA\n"),
+        (b"sum 0" + b" " * 251, desk.run(b"sum 0")), (b"sum 0" + b" " * 252, b"? a line has at most 256 bytes\n"),
+        (b"publish 0\nread 0 5 0 0 0 0 0\nmove 0 5 0 0", desk.run(b"publish 7") + b"2 untouched\n5 untouched\n"),
+    ):
+        assert desk.run(given) == answer
+
+
 CHECKS = (
-    check_printed_text, check_values_1_to_7, check_values_8_and_9,
-    check_values_10_and_11, check_values_12_and_13, check_float_arithmetic,
-    check_promised_moves, check_moves, check_refusal_order, check_tables_at_cap,
-    check_float_reads, check_line_program,
+    check_printed_text, check_published_reads, check_values_1_to_7, check_values_8_and_9, check_values_10_and_11,
+    check_values_12_and_13, check_float_arithmetic, check_promised_moves, check_moves, check_refusal_order, check_tables_at_cap,
+    check_moves_at_cap, check_float_reads, check_line_program, check_draws, check_desk,
 )
 
 if __name__ == "__main__":

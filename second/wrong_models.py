@@ -10,15 +10,15 @@ import desk
 import door
 import tables
 from door import POSITIVE_ZERO, SIGN_BIT
-from draws import I64_MIN, signed
-from model import ALPHA, BLOCK_COUNT, BLOCK_LENGTH, BETA, FIRST_BLOCK, HIGH_GROUP, PUBLISHED_LIMITS, PUBLISHED_TABLE, XI_GROUP, ZETA_GROUP
+from draws import I64_MIN, MASK, signed
+from model import ALPHA, BETA, BLOCK_COUNT, BLOCK_LENGTH, FIRST_BLOCK, HIGH_GROUP, PUBLISHED_LIMITS, PUBLISHED_TABLE, XI_GROUP, ZETA_GROUP
 from tables import LOWEST, HIGHEST, READING_OUTSIDE
 
 # The right functions, for wrong ones that differ from them in one respect.
-right_all_coefficients = tables.all_coefficients
 right_is_finite = door.is_finite
 right_limits_are_good = tables.limits_are_good
 right_move = tables.move
+right_moved_groups = tables.moved_groups
 right_moved_limits = tables.moved_limits
 right_moved_table = tables.moved_table
 right_power_moved = tables.power_moved
@@ -29,6 +29,8 @@ right_sums = tables.sums
 right_table_tests = tables.table_tests
 right_term_moved = tables.term_moved
 right_weights = tables.weights
+right_pattern = desk.pattern
+right_whole = desk.whole
 
 
 class Wrong:
@@ -61,13 +63,6 @@ def wrong_signs():
     return [Wrong("the other sign at place %d of the published table" % place, "Readings at the limits", "read",
                   published_with(place, -PUBLISHED_TABLE[place]))
             for place in range(FIRST_BLOCK, len(PUBLISHED_TABLE)) if PUBLISHED_TABLE[place]]
-
-
-def low_and_high_exchanged():
-    table = list(PUBLISHED_TABLE)
-    for start in range(FIRST_BLOCK, len(table), BLOCK_LENGTH):
-        table[start:start + 20] = table[start + 10:start + 20] + table[start:start + 10]
-    return in_tables("PUBLISHED_TABLE", tuple(table))
 
 
 # ---------------------------------------------------------------------- moves
@@ -114,10 +109,8 @@ def refused_move_writes_limits(table, variable, shift, output):
     return number
 
 
-def groups_of_variable(without, variable=None):
-    """The groups that a move multiplies out, one left out, in every variable or in one."""
-    right = tables.moved_groups
-    return lambda v: [group for group in right(v) if group != without or v not in (variable, v if variable is None else variable)]
+def rudder_group_not_moved(variable):
+    return [group for group in right_moved_groups(variable) if (variable, group) != (BETA, ZETA_GROUP)]
 
 
 # -------------------------------------------------------------------- weights
@@ -139,17 +132,6 @@ def wrapped_weights(table):
 
 def last_block_not_weighed(table):
     return right_weights(table[:FIRST_BLOCK + BLOCK_LENGTH * (BLOCK_COUNT - 1)])
-
-
-def rudder_not_weighed(table):
-    return right_weights(without_rudder(table))
-
-
-def without_rudder(table):
-    changed = list(table)
-    for block in range(BLOCK_COUNT):
-        changed[tables.PARTS[block][ZETA_GROUP]] = [0] * 15
-    return changed
 
 
 def blocks_weighed_together(table):
@@ -188,13 +170,6 @@ def room_not_checked(table, readings, output):
     number = right_read(table, readings, room) if len(output) > 6 else right_read(table, readings, output)
     output[:6] = room
     return number
-
-
-def publish_into_longer(output):
-    if len(output) < len(PUBLISHED_TABLE):
-        return tables.WRONG_OUTPUT_LENGTH
-    output[:len(PUBLISHED_TABLE)] = PUBLISHED_TABLE
-    return tables.DONE
 
 
 def low_half(number):
@@ -256,6 +231,47 @@ def interleaved(first, second):
 
 # ----------------------------------------------------------------------- desk
 
+def tabs_part_words(line):
+    return line.replace(b"\t", b" ").split()
+
+
+def plus_taken(word):
+    return right_whole(word.removeprefix(b"+"))
+
+
+def capitals_taken(word):
+    return right_pattern(word.lower())
+
+
+def not_stepped_first(numbers, place, step, size, seed):
+    """The seed itself is the first drawn number."""
+    changed, s = list(numbers), seed
+    for at in range(place, len(numbers), step) if step else [place]:
+        changed[at] = desk.drawn_number(s, size)
+        s = desk.stepped(s)
+    return tuple(changed)
+
+
+def place_and_count_wrapped(self, space, place, count):
+    if place + count & MASK > len(self.spaces[space]):
+        return desk.NO_PLACE
+    return desk.spaced(self.spaces[space][place:place + (count & 511)])
+
+
+def old_numbers_back(self, space, count):
+    """A longer space has new numbers that are not 0."""
+    if count > desk.MOST_NUMBERS:
+        return desk.NO_ROOM
+    kept = self.spaces[space][:count]
+    self.spaces[space] = kept + (1,) * (count - len(kept))
+    return "ok"
+
+
+def with_kind(right, wrong):
+    """Every command's words of one kind read by another function."""
+    return [(command, "kinds", [wrong if kind is right else kind for kind in command.kinds]) for command in desk.COMMANDS.values()]
+
+
 def changed_after_refusal(self, into, operation):
     room = desk.lent(len(self.spaces[into]))
     number = operation(room)
@@ -276,39 +292,26 @@ MODELS = (
           in_tables("term_moved", pure_places_dropped)),
     Wrong("only the moved table weighed", "Borders of moved tables", "move", in_tables("move_is_too_heavy", only_moved_table_weighed)),
     Wrong("a reach of 0", "Edges of the limits", "read", in_tables("reach_between", lambda low, high: max(abs(low), abs(high)))),
-    # the published table
-    Wrong("the low and the high group exchanged", "Readings at the limits", "read", low_and_high_exchanged()),
     # moves
-    Wrong("a move that copies the table", "Composed moves", "move",
-          in_tables("moved_table", lambda table, variable, shift: list(table))),
     Wrong("the polynomials moved the other way", "The published table moved", "read",
           in_tables("power_moved", lambda power, shift: right_power_moved(power, -shift))),
-    Wrong("the limits moved the other way", "The published table moved", "read",
-          in_tables("moved_limits", lambda limits, variable, shift: right_moved_limits(limits, variable, -shift))),
     Wrong("the limits left behind by a second move", "Composed moves", "read", in_tables("moved_limits", limits_moved_once)),
     Wrong("a wrong number in the row of the fourth power", "Single numbers", "move", in_tables("power_moved", row_of_four_wrong)),
-    Wrong("the high group not moved", "The published table moved", "read", in_tables("moved_groups", groups_of_variable(HIGH_GROUP))),
     Wrong("the rudder group not moved with beta", "The published table moved", "read",
-          in_tables("moved_groups", groups_of_variable(ZETA_GROUP, BETA))),
+          in_tables("moved_groups", rudder_group_not_moved)),
     Wrong("a refused move that writes limits", "Checked values 1 to 11", "move", in_tables("move", refused_move_writes_limits)),
     Wrong("a move weighed at the old reach", "Moves at the cap", "move", in_tables("move_weights", weighed_at_old_reach)),
-    Wrong("a move weighed by its shift and not its size", "Moves at the cap", "move", in_tables("move_reach", lambda reach, shift: reach + shift)),
+    Wrong("a move weighed by its shift and not its size", "Moves at the cap", "move",
+          in_tables("move_reach", lambda reach, shift: reach + shift)),
     Wrong("the cap of a move one higher", "Moves at the cap", "move", in_tables("MOVE_WEIGHT_CAP", tables.WEIGHT_CAP + 1)),
     Wrong("the cap of a move one lower", "Moves at the cap", "move", in_tables("MOVE_WEIGHT_CAP", tables.WEIGHT_CAP - 1)),
-    Wrong("a variable cut to 32 bits", "Moves of the published table", "move",
-          in_tables("move", lambda table, variable, shift, output: right_move(table, variable & 0xFFFFFFFF, shift, output))),
-    Wrong("a shift cut to 32 bits", "Shifts at the ends of 64 bits", "move",
-          in_tables("move", lambda table, variable, shift, output: right_move(table, variable, low_half(shift), output))),
     # weights
     Wrong("the cap one higher", "Weights at the cap", "read", in_tables("WEIGHT_CAP", tables.WEIGHT_CAP + 1)),
     Wrong("the cap one lower", "Weights at the cap", "read", in_tables("WEIGHT_CAP", tables.WEIGHT_CAP - 1)),
     Wrong("the high piece's reach from the cut", "Edges of the limits", "read", in_tables("reaches", high_reach_from_cut)),
-    Wrong("the high piece not weighed", "The smallest number at each place", "read",
-          in_tables("weights", lambda table: right_weights(table)[:BLOCK_COUNT])),
     Wrong("the last block not weighed", "The smallest number at each place", "read", in_tables("weights", last_block_not_weighed)),
-    Wrong("the rudder group not weighed", "Weights at the cap", "read", in_tables("weights", rudder_not_weighed)),
     Wrong("all blocks weighed as one", "A number in each block", "read", in_tables("weights", blocks_weighed_together)),
-    Wrong("weights modulo 2^64", "Weights at the cap", "read", in_tables("weights", wrapped_weights)),
+    Wrong("weights modulo 2^64", "Random tables", "read", in_tables("weights", wrapped_weights)),
     Wrong("the smallest number without a magnitude", "The smallest number at each place", "read",
           in_tables("magnitudes", smallest_is_its_own_magnitude)),
     # limits and readings
@@ -321,36 +324,45 @@ MODELS = (
     Wrong("a reading cut to 32 bits", "Readings at the ends of 64 bits", "read",
           in_tables("read", lambda table, readings, output: right_read(table, [low_half(reading) for reading in readings], output))),
     Wrong("the rudder group not read", "Single numbers", "read", in_tables("SIDE_GROUPS", (XI_GROUP,))),
-    Wrong("X repeated for the other five", "Readings at the limits", "read",
-          in_tables("all_coefficients", lambda table, readings: right_all_coefficients(table, readings)[:1] * 6)),
     # lengths
     Wrong("a longer table taken", "Wrong lengths", "read", with_test(tables.WRONG_TABLE_LENGTH, lambda table: len(table) < 311)),
-    Wrong("a table without its last number taken", "Wrong lengths", "read",
-          with_test(tables.WRONG_TABLE_LENGTH, lambda table: len(table) not in (310, 311))),
     Wrong("a longer room taken by a read", "Wrong lengths", "read", in_tables("read", room_not_checked)),
-    Wrong("a longer room taken by publishing", "Publishing", "publish", in_tables("publish", publish_into_longer)),
     # the order of refusals
-    Wrong("a read's room before its table's length", "Mixed defects of reads", "read", in_tables("READ_ORDER", (2, 1, 3, 4) + READING_OUTSIDE)),
+    Wrong("a read's room before its table's length", "Mixed defects of reads", "read",
+          in_tables("READ_ORDER", (2, 1, 3, 4) + READING_OUTSIDE)),
     Wrong("a read's weight before its limits", "Mixed defects of reads", "read", in_tables("READ_ORDER", (1, 2, 4, 3) + READING_OUTSIDE)),
-    Wrong("the last reading outside given", "Mixed defects of reads", "read", in_tables("READ_ORDER", READ_TESTS + READING_OUTSIDE[::-1])),
+    Wrong("the last reading outside given", "Mixed defects of reads", "read",
+          in_tables("READ_ORDER", READ_TESTS + READING_OUTSIDE[::-1])),
     Wrong("a move's variable behind its table", "Mixed defects of moves", "move", in_tables("MOVE_ORDER", (1, 2, 3, 4, 5, 6, 7))),
     Wrong("a move's weight before its limits", "Mixed defects of moves", "move", in_tables("MOVE_ORDER", (1, 2, 5, 3, 4, 7, 6))),
-    Wrong("outside before not finite", "Mixed defects of reads with floats", "floats",
-          in_door("DOOR_ORDER", (1, 3, 4) + READING_OUTSIDE + door.NOT_FINITE)),
     Wrong("not finite asked reading by reading", "Mixed defects of reads with floats", "floats",
           in_door("DOOR_ORDER", (1, 3, 4) + interleaved(door.NOT_FINITE, READING_OUTSIDE))),
     # floats
-    Wrong("halves rounded away from zero", "Checked values 12 and 13", "floats", in_door("whole_reading", lambda bits: halves_away(door.exact_value(bits)))),
+    Wrong("halves rounded away from zero", "Checked values 12 and 13", "floats",
+          in_door("whole_reading", lambda bits: halves_away(door.exact_value(bits)))),
     Wrong("readings cut off and not rounded", "Floats at the limits and their halves", "floats",
           in_door("whole_reading", lambda bits: int(door.exact_value(bits)))),
-    Wrong("the piece chosen before rounding", "Floats at the limits and their halves", "floats", in_door("six_answers", piece_before_rounding)),
-    Wrong("outside asked before rounding", "Floats at the limits and their halves", "floats", in_door("float_is_outside", outside_before_rounding)),
-    Wrong("the rounded reading handed back", "Floats at the limits and their halves", "floats", in_door("handed_back_with", rounded_handed_back)),
+    Wrong("the piece chosen before rounding", "Floats at the limits and their halves", "floats",
+          in_door("six_answers", piece_before_rounding)),
+    Wrong("outside asked before rounding", "Floats at the limits and their halves", "floats",
+          in_door("float_is_outside", outside_before_rounding)),
+    Wrong("the rounded reading handed back", "Floats at the limits and their halves", "floats",
+          in_door("handed_back_with", rounded_handed_back)),
     Wrong("a NaN let through", "Every kind of NaN", "floats", in_door("is_finite", nan_let_through)),
     Wrong("only a quiet NaN noticed", "Every kind of NaN", "floats", in_door("is_finite", quiet_nan_alone_noticed)),
-    Wrong("answers divided without rounding them first", "Drawn floats of tables near the cap", "floats", in_door("answer_bits", one_rounding_only)),
+    Wrong("answers divided without rounding them first", "Drawn floats of tables near the cap", "floats",
+          in_door("answer_bits", one_rounding_only)),
     Wrong("answers cut off and not rounded", "Drawn floats of the published table", "floats", in_door("answer_bits", answer_cut_off)),
     Wrong("a zero answered as negative zero", "Mixed defects of reads with floats", "floats", in_door("answer_bits", zero_is_negative)),
-    # the desk
-    Wrong("a space changed by a refusal", "Moves into the same space, and wrong rooms", "sum", (desk.Desk, "write", changed_after_refusal)),
+    # the desk itself
+    Wrong("a space changed by a refusal", "Moves into the same space, and wrong rooms", "sum",
+          (desk.Desk, "write", changed_after_refusal)),
+    Wrong("a line of 256 bytes called too long", "Long lines", "sum", (desk, "LONGEST_LINE", 255)),
+    Wrong("a line of 257 bytes taken", "Long lines", "sum", (desk, "LONGEST_LINE", 257)),
+    Wrong("words parted by tabs too", "Every byte", "sum", (desk, "words_of", tabs_part_words)),
+    Wrong("a plus taken as a sign", "Every byte", "set", *with_kind(right_whole, plus_taken)),
+    Wrong("capital hexadecimal digits taken", "Every byte", "floats", *with_kind(right_pattern, capitals_taken)),
+    Wrong("drawn numbers that start with the seed", "Drawn numbers", "sum", (desk, "filled", not_stepped_first)),
+    Wrong("place and count added modulo 2^64", "Copies and shows", "show", (desk.Desk, "show", place_and_count_wrapped)),
+    Wrong("new numbers of a space that are not 0", "Lengths of spaces", "sum", (desk.Desk, "length", old_numbers_back)),
 )
