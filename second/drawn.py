@@ -3,7 +3,7 @@
 from draws import I64_MAX, I64_MIN
 from makers import (
     PROMISED_SIZES, damage, filling_place, full_number, good_limits, inside_float_state, inside_state, last_accepted, move_factor_at, nudge,
-    of_sign, one_in_each_block, random_table, rest_of_cap, shifted, spoil_limits, spoil_state,
+    of_sign, one_in_each_block, random_table, rest_of_cap, shifted, spoil_limits, spoil_state, variables_at,
 )
 from model import FIRST_BLOCK
 from tables import WEIGHT_CAP
@@ -173,8 +173,8 @@ def moves_at_the_cap(script, gen):
     script.zeros(2)
     for k in range(100):
         limits = good_limits(gen)
-        variable, shift = gen.take(0, 4), gen.take(-50, 50)
         place = FIRST_BLOCK + 3 * k + gen.take(0, 2)
+        variable, shift = gen.pick(variables_at(place) or range(5)), gen.take(-50, 50)
         factor = move_factor_at(limits, place, variable, shift)
         script.limits(1, limits)
         script.set(1, place, of_sign(gen, WEIGHT_CAP // factor))

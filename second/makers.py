@@ -129,6 +129,13 @@ def product_at(radii, place):
     return radii[GROUPS[number].first] ** of_first * radii[GROUPS[number].second] ** of_second
 
 
+def variables_at(place):
+    """The variables that the term of a place has."""
+    number, inside = group_and_offset(place)
+    group = GROUPS[number]
+    return [variable for variable, power in zip((group.first, group.second), group.powers[inside]) if power]
+
+
 def factor_at(limits, place):
     """The product of reaches by which the number at a place is weighed."""
     return product_at(tables.reaches(limits, piece_of(place)), place)

@@ -19,7 +19,7 @@ from makers import (
 from model import BLOCK_COUNT, EQUATIONS_OF_BLOCK, FIRST_BLOCK, GROUPS, PRINTED, PUBLISHED_TABLE, parse_polynomial, place_of
 from script import Script
 
-X, Y, Z, L, M, N = range(6)
+X, Z, L, M = 0, 2, 3, 4
 T = PUBLISHED_TABLE
 
 

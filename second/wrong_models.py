@@ -232,7 +232,7 @@ def interleaved(first, second):
 # ----------------------------------------------------------------------- desk
 
 def tabs_part_words(line):
-    return line.replace(b"\t", b" ").split()
+    return [word for word in line.replace(b"\t", b" ").split(b" ") if word]
 
 
 def plus_taken(word):
