@@ -10,12 +10,6 @@ SCRIPT, ANSWERS = FOLDER / "stdin", FOLDER / "stdout"
 FEWEST_OPERATIONS, MOST_OPERATIONS, MOST_BYTES = 12500, 15000, 2000000
 
 
-def worked_out():
-    """The script and its answers."""
-    script = sections.build()
-    return script.written(), script.answered()
-
-
 def kept_bytes(path):
     return path.read_bytes() if path.is_file() else b""
 

@@ -12,12 +12,13 @@ import sys
 
 import desk
 import kept
+import sections
 import trimcard
 import trimcard_input
 import wrong
 
 WRITES = {
-    "desk-script": lambda: kept.worked_out()[0],
+    "desk-script": lambda: sections.build().written(),
     "desk": lambda: desk.run(sys.stdin.buffer.read()),
     "trimcard": lambda: trimcard.run(sys.stdin.buffer.read()),
     "trimcard-input": trimcard_input.build,

@@ -13,7 +13,6 @@ from fractions import Fraction
 
 VARIABLE_LETTERS = "abxez"          # the order in which variables are numbered
 ALPHA, BETA, XI, ETA, ZETA = range(5)
-COEFFICIENT_NAMES = ("X", "Y", "Z", "l", "m", "n")
 
 # alpha lowest, cut, highest; then lowest and highest of beta, xi, eta, zeta
 PUBLISHED_LIMITS = (-150, 313, 1000, -500, 500, -200, 200, -400, 400, -500, 500)

@@ -1,11 +1,12 @@
 """Shows that the script notices: each wrong model has to differ in its section from the kept answers, and the right one in none."""
 
 from contextlib import contextmanager
+from itertools import zip_longest
 
 import kept
 import tables
 from desk import SPACE_COUNT, Desk
-from wrong_models import MODELS, wrong_signs
+from wrong_models import MODELS, Wrong, wrong_signs
 
 
 @contextmanager
@@ -33,7 +34,7 @@ def littered_desk():
 def first_difference(section, command):
     """The first line with the command (any where it is None) whose answer is another than the kept one, or None."""
     desk = littered_desk()
-    for line, kept_answer in zip(*section):
+    for line, kept_answer in zip_longest(*section):
         answer = desk.answer(line)
         if answer != kept_answer and command in (None, line.split(b" ")[0].decode("latin-1")):
             return line
@@ -45,12 +46,16 @@ def is_noticed(model, sections):
         return first_difference(sections[model.section], model.command) is not None
 
 
+def right_model(title):
+    """The model as it is, which no line of a section may notice."""
+    return Wrong("the right model in " + title, title, None)
+
+
 def check():
     """Whether every wrong model is noticed and the right one is not, and what to say about it."""
     sections = kept.parted_sections()
     signs = wrong_signs()
-    faults = ["the right model is noticed in the section: " + title for title in sections
-              if first_difference(sections[title], None) is not None]
+    faults = ["noticed: " + model.name for model in map(right_model, sections) if is_noticed(model, sections)]
     faults += ["not noticed: " + model.name for model in MODELS + tuple(signs) if not is_noticed(model, sections)]
     if faults:
         return False, "\n".join(faults)
