@@ -6,7 +6,7 @@ from itertools import zip_longest
 import kept
 import tables
 from desk import SPACE_COUNT, Desk
-from wrong_models import MODELS, Wrong, wrong_signs
+from wrong_models import DESKS, MODELS, Wrong, wrong_signs
 
 
 @contextmanager
@@ -56,8 +56,8 @@ def check():
     sections = kept.parted_sections()
     signs = wrong_signs()
     faults = ["noticed: " + model.name for model in map(right_model, sections) if is_noticed(model, sections)]
-    faults += ["not noticed: " + model.name for model in MODELS + tuple(signs) if not is_noticed(model, sections)]
+    faults += ["not noticed: " + model.name for model in MODELS + DESKS + signs if not is_noticed(model, sections)]
     if faults:
         return False, "\n".join(faults)
-    return True, "%d wrong models and %d wrong signs are noticed, the right model in none of %d sections" % (
-        len(MODELS), len(signs), len(sections))
+    return True, "%d wrong models, %d wrong desks and %d wrong signs are noticed, the right model in none of %d sections" % (
+        len(MODELS), len(DESKS), len(signs), len(sections))

@@ -1,4 +1,4 @@
-"""Wrong models: what each gets wrong, and where the script has to notice it.
+"""Wrong models, wrong desks and wrong signs: what each gets wrong, and where the script has to notice it.
 
 A change puts another function, order or number in the place of the right one. Those that the requirement lists as errors that
 look right come first.
@@ -60,9 +60,9 @@ def published_with(place, number):
 
 def wrong_signs():
     """Each printed coefficient with the other sign."""
-    return [Wrong("the other sign at place %d of the published table" % place, "Readings at the limits", "read",
-                  published_with(place, -PUBLISHED_TABLE[place]))
-            for place in range(FIRST_BLOCK, len(PUBLISHED_TABLE)) if PUBLISHED_TABLE[place]]
+    return tuple(Wrong("the other sign at place %d of the published table" % place, "Readings at the limits", "read",
+                       published_with(place, -PUBLISHED_TABLE[place]))
+                 for place in range(FIRST_BLOCK, len(PUBLISHED_TABLE)) if PUBLISHED_TABLE[place])
 
 
 # ---------------------------------------------------------------------- moves
@@ -258,8 +258,7 @@ def place_and_count_wrapped(self, space, place, count):
     return desk.spaced(self.spaces[space][place:place + (count & 511)])
 
 
-def old_numbers_back(self, space, count):
-    """A longer space has new numbers that are not 0."""
+def new_numbers_are_one(self, space, count):
     if count > desk.MOST_NUMBERS:
         return desk.NO_ROOM
     kept = self.spaces[space][:count]
@@ -354,7 +353,10 @@ MODELS = (
           in_door("answer_bits", one_rounding_only)),
     Wrong("answers cut off and not rounded", "Drawn floats of the published table", "floats", in_door("answer_bits", answer_cut_off)),
     Wrong("a zero answered as negative zero", "Mixed defects of reads with floats", "floats", in_door("answer_bits", zero_is_negative)),
-    # the desk itself
+)
+
+# A desk around the right model that does not do what it is told.
+DESKS = (
     Wrong("a space changed by a refusal", "Moves into the same space, and wrong rooms", "sum",
           (desk.Desk, "write", changed_after_refusal)),
     Wrong("a line of 256 bytes called too long", "Long lines", "sum", (desk, "LONGEST_LINE", 255)),
@@ -364,5 +366,5 @@ MODELS = (
     Wrong("capital hexadecimal digits taken", "Every byte", "floats", *with_kind(right_pattern, capitals_taken)),
     Wrong("drawn numbers that start with the seed", "Drawn numbers", "sum", (desk, "filled", not_stepped_first)),
     Wrong("place and count added modulo 2^64", "Copies and shows", "show", (desk.Desk, "show", place_and_count_wrapped)),
-    Wrong("new numbers of a space that are not 0", "Lengths of spaces", "sum", (desk.Desk, "length", old_numbers_back)),
+    Wrong("new numbers of a space that are not 0", "Lengths of spaces", "sum", (desk.Desk, "length", new_numbers_are_one)),
 )
