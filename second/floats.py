@@ -96,20 +96,15 @@ def random_ones(script, gen):
         use_table(script, gen, 0)
 
 
-def damaged(script, gen):
-    script.published(0)
-    for _ in range(75):
-        script.copy(0, 1)
-        damage(script, gen, 1)
-        use_table(script, gen, 1)
-
-
-def bad_limits(script, gen):
-    script.published(0)
-    for _ in range(40):
-        script.copy(0, 1)
-        spoil_limits(script, gen, 1)
-        use_table(script, gen, 1)
+def published_with(change, times):
+    """A section of the published table, each time with another change."""
+    def section(script, gen):
+        script.published(0)
+        for _ in range(times):
+            script.copy(0, 1)
+            change(script, gen, 1)
+            use_table(script, gen, 1)
+    return section
 
 
 def near_the_cap(script, gen):
@@ -127,7 +122,7 @@ SECTIONS = (
     ("Drawn floats of the published table", published),
     ("Drawn floats of moved tables", moved),
     ("Drawn floats of random tables", random_ones),
-    ("Drawn floats of damaged tables", damaged),
-    ("Drawn floats of tables with bad limits", bad_limits),
+    ("Drawn floats of damaged tables", published_with(damage, 75)),
+    ("Drawn floats of tables with bad limits", published_with(spoil_limits, 40)),
     ("Drawn floats of tables near the cap", near_the_cap),
 )

@@ -172,6 +172,19 @@ def random_table(script, gen, space):
         script.fill(space, place, gen.pick(STEPS), budget // factor_at(limits, place) + 1, draw_seed(gen))
 
 
+# What a term may weigh where most places hold one, likewise.
+DENSE_BUDGETS = (5 * 10**17, 4 * 10**17, 2 * 10**17, 10**15, 10**12, 10**9)
+
+
+def dense_table(script, gen, space, budget, quarters):
+    """Good limits, and at so many quarters of the places drawn numbers, each weighing up to the budget in its own place."""
+    limits = good_limits(gen)
+    script.limits(space, limits)
+    for place in range(FIRST_BLOCK, FIRST_BLOCK + BLOCK_LENGTH):
+        if gen.take(1, 4) <= quarters:
+            script.fill(space, place, BLOCK_LENGTH, budget // factor_at(limits, place) + 1, draw_seed(gen))
+
+
 # --------------------------------------------------------------------- borders
 
 def last_accepted(table, variable, sign):

@@ -290,7 +290,7 @@ MODELS = (
     Wrong("what a move throws into the pure places dropped", "The published table moved", "read",
           in_tables("term_moved", pure_places_dropped)),
     Wrong("only the moved table weighed", "Borders of moved tables", "move", in_tables("move_is_too_heavy", only_moved_table_weighed)),
-    Wrong("a reach of 0", "Edges of the limits", "read", in_tables("reach_between", lambda low, high: max(abs(low), abs(high)))),
+    Wrong("a reach of 0", "Edges of the reach", "read", in_tables("reach_between", lambda low, high: max(abs(low), abs(high)))),
     # moves
     Wrong("the polynomials moved the other way", "The published table moved", "read",
           in_tables("power_moved", lambda power, shift: right_power_moved(power, -shift))),
@@ -307,7 +307,7 @@ MODELS = (
     # weights
     Wrong("the cap one higher", "Weights at the cap", "read", in_tables("WEIGHT_CAP", tables.WEIGHT_CAP + 1)),
     Wrong("the cap one lower", "Weights at the cap", "read", in_tables("WEIGHT_CAP", tables.WEIGHT_CAP - 1)),
-    Wrong("the high piece's reach from the cut", "Edges of the limits", "read", in_tables("reaches", high_reach_from_cut)),
+    Wrong("the high piece's reach from the cut", "Edges of the reach", "read", in_tables("reaches", high_reach_from_cut)),
     Wrong("the last block not weighed", "The smallest number at each place", "read", in_tables("weights", last_block_not_weighed)),
     Wrong("all blocks weighed as one", "A number in each block", "read", in_tables("weights", blocks_weighed_together)),
     Wrong("weights modulo 2^64", "Random tables", "read", in_tables("weights", wrapped_weights)),
@@ -324,8 +324,8 @@ MODELS = (
           in_tables("read", lambda table, readings, output: right_read(table, [low_half(reading) for reading in readings], output))),
     Wrong("the rudder group not read", "Single numbers", "read", in_tables("SIDE_GROUPS", (XI_GROUP,))),
     # lengths
-    Wrong("a longer table taken", "Wrong lengths", "read", with_test(tables.WRONG_TABLE_LENGTH, lambda table: len(table) < 311)),
-    Wrong("a longer room taken by a read", "Wrong lengths", "read", in_tables("read", room_not_checked)),
+    Wrong("a longer table taken", "Wrong lengths of reads", "read", with_test(tables.WRONG_TABLE_LENGTH, lambda table: len(table) < 311)),
+    Wrong("a longer room taken by a read", "Wrong lengths of reads", "read", in_tables("read", room_not_checked)),
     # the order of refusals
     Wrong("a read's room before its table's length", "Mixed defects of reads", "read",
           in_tables("READ_ORDER", (2, 1, 3, 4) + READING_OUTSIDE)),
@@ -357,7 +357,7 @@ MODELS = (
 
 # A desk around the right model that does not do what it is told.
 DESKS = (
-    Wrong("a space changed by a refusal", "Moves into the same space, and wrong rooms", "sum",
+    Wrong("a space changed by a refusal", "Rooms that are wrong", "sum",
           (desk.Desk, "write", changed_after_refusal)),
     Wrong("a line of 256 bytes called too long", "Long lines", "sum", (desk, "LONGEST_LINE", 255)),
     Wrong("a line of 257 bytes taken", "Long lines", "sum", (desk, "LONGEST_LINE", 257)),
