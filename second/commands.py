@@ -2,6 +2,7 @@
 
 from desk import COMMANDS, LONGEST_LINE, MOST_NUMBERS, SPACE_COUNT, natural, pattern, whole
 from draws import I64_MAX, I64_MIN, MASK
+from makers import ZEROS
 from model import TABLE_LENGTH
 
 FINE_WORDS = {natural: b"0", whole: b"-1", pattern: b"3fe0000000000000"}
@@ -133,7 +134,7 @@ def same_space(script, _):
         script.move(0, v, shift, 0)
         script.sum(0)
         script.show(0, 0, 16)
-        script.read(0, [0, 0, 0, 0, 0])
+        script.read(0, ZEROS)
 
 
 def rooms_that_are_wrong(script, _):
@@ -152,8 +153,8 @@ def rooms_that_are_wrong(script, _):
             script.sum(1)
     script.comment("rooms of reads, some of more numbers than there is room for")
     for room in (0, 1, 5, 7, 311, 319, 320, 321, 322, 1 << 32, (1 << 32) + 6, 1 << 63, MASK):
-        script.read(0, [0, 0, 0, 0, 0], room)
-        script.read(2, [0, 0, 0, 0, 0], room)
+        script.read(0, ZEROS, room)
+        script.read(2, ZEROS, room)
 
 
 # ------------------------------------------------------------------- lines

@@ -3,7 +3,10 @@
 from itertools import product
 
 from draws import I64_MAX, I64_MIN, MASK
-from makers import NARROW_LIMITS, PROMISED_SIZES, X_CONSTANT, X_LOW_AAA, ZEROS, last_accepted, with_reading
+from makers import (
+    INFINITY, NARROW_LIMITS, PROMISED_SIZES, QUIET_NAN, X_CONSTANT, X_LOW_AAA, ZEROS, bits_of_ratio, bits_of_whole, corners, last_accepted,
+    with_reading,
+)
 from model import BLOCK_LENGTH, FIRST_BLOCK, PUBLISHED_TABLE, TABLE_LENGTH
 from tables import HIGHEST, LOWEST, WEIGHT_CAP
 
@@ -90,8 +93,8 @@ def readings_at_the_limits(script, _):
     for alpha in range(310, 318):
         script.read(0, [alpha, 7, -5, 3, -2])
     script.comment("every corner, in both pieces")
-    for corner in range(32):
-        script.read(0, [t[HIGHEST[v]] if corner >> v & 1 else t[LOWEST[v]] for v in range(5)])
+    for state in corners(t):
+        script.read(0, state)
 
 
 def readings_at_the_ends(script, _):
@@ -169,7 +172,7 @@ def wrong_lengths_of_reads(script, _):
         published_of_length(script, 0, length)
         for room in ROOMS:
             script.read(0, ZEROS, room)
-        for pattern in (0x3FD0000000000000, 0x7FF0000000000000):        # 0.25 and an infinity
+        for pattern in (bits_of_ratio(1, 4), INFINITY):
             script.floats(0, with_reading(1, pattern))
 
 
@@ -243,14 +246,12 @@ def mixed_defects_of_floats(script, _):
     """Every mixture of readings that are inside, outside and not finite, and every mixture of tables' defects with some."""
     script.published(9)
     lay_out_defects(script, False)
-    # 0.25, -5000.5 and an infinity
-    choices = (0x3FD0000000000000, 0xC0B3888000000000, 0x7FF0000000000000)
-    for mask in range(3**5):
-        script.floats(9, [choices[mask // 3**v % 3] for v in range(5)])
+    choices = (bits_of_ratio(1, 4), bits_of_ratio(-10001, 2), INFINITY)
+    for patterns in product(choices, repeat=5):
+        script.floats(9, patterns)
     for mask in range(8):
-        for first in range(3):
-            for last in range(3):
-                script.floats(mask, [choices[first], 0, 0, 0, choices[last]])
+        for first, last in product(choices, repeat=2):
+            script.floats(mask, [first, 0, 0, 0, last])
 
 
 def one_or_none(changes):
@@ -268,8 +269,8 @@ def kinds_of_defects(script, _):
         changed_copy(script, *sum(defects, ()))
         script.read(1, [2, 0, 0, 0, 0])
         script.read(1, [0, 0, 0, 1, -1], 7)
-        script.floats(1, [0, 0x7FF8000000000000, 0, 0x4000000000000000, 0])
-        script.floats(1, [0, 0, 0x4000000000000000, 0, 0xC000000000000000])
+        script.floats(1, [0, QUIET_NAN, 0, bits_of_whole(2), 0])
+        script.floats(1, [0, 0, bits_of_whole(2), 0, bits_of_whole(-2)])
         script.move(1, 0, 2000, 2)
         script.move(1, 4, -2001, 2)
         script.move(1, 7, 1, 2)

@@ -27,6 +27,11 @@ def with_reading(variable, value):
     return readings
 
 
+def corners(table):
+    """Every state in which each reading is at its lowest or its highest limit."""
+    return [[table[HIGHEST[v]] if corner >> v & 1 else table[LOWEST[v]] for v in range(5)] for corner in range(32)]
+
+
 def inside_state(gen, table):
     """Five readings within the limits, often on them or at the cut."""
     readings = []
@@ -249,6 +254,11 @@ def one_in_each_block(script, gen, space, limits, way):
 
 
 # ---------------------------------------------------------------------- floats
+
+INFINITY = door.INFINITY_BITS
+QUIET = 1 << 51                             # the bit that tells a quiet NaN from a signalling one
+QUIET_NAN = INFINITY | QUIET
+
 
 def bits_of_ratio(numerator, denominator):
     """Pattern of numerator / denominator; used only where that is exact."""

@@ -199,8 +199,8 @@ def longer_taken(operation, length):
 
 
 def shorter_taken(table, variable, shift, output):
-    """A move that writes as much as there is room for."""
-    room = desk.lent(TABLE_LENGTH)
+    """A move that writes as much as there is room for where that is less than a table."""
+    room = desk.lent(max(TABLE_LENGTH, len(output)))
     number = right_move(table, variable, shift, room)
     if number == tables.DONE:
         output[:] = room[:len(output)]
