@@ -2,6 +2,7 @@
 
 from desk import COMMANDS, LONGEST_LINE, MOST_NUMBERS, SPACE_COUNT, natural, pattern, whole
 from draws import I64_MAX, I64_MIN, MASK
+from makers import ZEROS
 from model import TABLE_LENGTH
 
 FINE_WORDS = {natural: b"0", whole: b"-1", pattern: b"3fe0000000000000"}
@@ -52,7 +53,7 @@ def lengths(script, _):
     for length in (311, 320, 0, 1, 0, 320, 319, 320, 50, 51, 311):
         script.length(5, length)
         script.sum(5)
-        script.fill(5, 0, 3, 1000, 7) if length else script.show(5, 0, 0)
+        script.fill(5, 0, 3, 1000, 7)
         script.show(5, 0, min(length, 8))
     for length in (321, 322, 512, 1 << 32, (1 << 32) + 1, 1 << 63, MASK):
         script.length(5, length)
@@ -96,7 +97,11 @@ def drawn_numbers(script, _):
     for seed in range(1, 21):
         script.fill(1, seed, seed, 10**seed if seed < 20 else MASK, seed * 10**11)
         script.sum(1)
-    script.comment("the longest answer")
+
+
+def longest_answer(script, _):
+    """As many numbers as a space has at most, each of the most digits."""
+    script.zeros(1, MOST_NUMBERS)
     for place in range(MOST_NUMBERS):
         script.set(1, place, I64_MIN)
     script.show(1, 0, MOST_NUMBERS)
@@ -129,8 +134,13 @@ def same_space(script, _):
         script.move(0, v, shift, 0)
         script.sum(0)
         script.show(0, 0, 16)
-        script.read(0, [0, 0, 0, 0, 0])
-    script.comment("refused with a space that holds other numbers")
+        script.read(0, ZEROS)
+
+
+def rooms_that_are_wrong(script, _):
+    """Refusals leave a space that holds other numbers as it was."""
+    known_spaces(script)
+    script.publish(0)
     for length in (310, 311, 312):
         script.zeros(1, length)
         script.fill(1, 0, 1, 1000, 4)
@@ -141,10 +151,10 @@ def same_space(script, _):
         if length != TABLE_LENGTH:
             script.publish(1)
             script.sum(1)
-    script.comment("rooms that are wrong, and more than there is room for")
+    script.comment("rooms of reads, some of more numbers than there is room for")
     for room in (0, 1, 5, 7, 311, 319, 320, 321, 322, 1 << 32, (1 << 32) + 6, 1 << 63, MASK):
-        script.read(0, [0, 0, 0, 0, 0], room)
-        script.read(2, [0, 0, 0, 0, 0], room)
+        script.read(0, ZEROS, room)
+        script.read(2, ZEROS, room)
 
 
 # ------------------------------------------------------------------- lines
@@ -161,27 +171,26 @@ def words_too_few_and_too_many(script, _):
     sum_all(script)
 
 
+def every_word():
+    """For each word of each command: a fine line, the word's place in it, its name and its kind."""
+    return [(fine_line(name), place, word_name, kind)
+            for name, command in COMMANDS.items() for place, (word_name, kind) in enumerate(zip(command.names, command.kinds), 1)]
+
+
 def words_that_are_no_numbers(script, _):
+    """And numbers at the ends of their range, and with zeros in front."""
     known_spaces(script)
-    for name, command in COMMANDS.items():
-        words = fine_line(name)
-        for place, kind in enumerate(command.kinds, 1):
-            for word in NOT_NUMBERS[kind]:
-                script.line(with_word(words, place, word))
-            for word in ENDS_IN_WORDS[kind]:
-                script.line(with_word(words, place, word))
-            script.line(with_word(words, place, b"0" * 40 + FINE_WORDS[natural]))
-    known_spaces(script)
+    for words, place, _, kind in every_word():
+        for word in NOT_NUMBERS[kind] + ENDS_IN_WORDS[kind] + (b"0" * 40 + FINE_WORDS[natural],):
+            script.line(with_word(words, place, word))
 
 
 def spaces_that_are_none(script, _):
     known_spaces(script)
-    for name, command in COMMANDS.items():
-        words = fine_line(name)
-        for place, word_name in enumerate(command.names, 1):
-            if word_name in ("SPACE", "INTO"):
-                for space in (b"9", b"10", b"11", b"256", b"4294967296", b"18446744073709551615", b"09", b"010"):
-                    script.line(with_word(words, place, space))
+    for words, place, word_name, _ in every_word():
+        if word_name in ("SPACE", "INTO"):
+            for space in (b"9", b"10", b"11", b"256", b"4294967296", b"18446744073709551615", b"09", b"010"):
+                script.line(with_word(words, place, space))
     sum_all(script)
 
 
@@ -285,8 +294,10 @@ SECTIONS = (
     ("Lengths of spaces", lengths),
     ("Single places of spaces", single_places),
     ("Drawn numbers", drawn_numbers),
+    ("The longest answer", longest_answer),
     ("Copies and shows", copies_and_shows),
-    ("Moves into the same space, and wrong rooms", same_space),
+    ("Moves into the same space", same_space),
+    ("Rooms that are wrong", rooms_that_are_wrong),
     ("Words too few and too many", words_too_few_and_too_many),
     ("Words that are no numbers", words_that_are_no_numbers),
     ("Spaces that are none", spaces_that_are_none),

@@ -1,7 +1,7 @@
 """The floating-point door, worked on 64-bit patterns of binary64 numbers.
 
 A pattern is turned into an exact fraction and a result is rounded back by
-whole-number arithmetic, so no machine float takes part in any answer.
+whole-number arithmetic, so no floating-point arithmetic takes part in any answer.
 """
 
 from fractions import Fraction

@@ -2,8 +2,9 @@
 
 from draws import I64_MAX, I64_MIN
 from makers import (
-    PROMISED_SIZES, damage, filling_place, full_number, good_limits, inside_float_state, inside_state, last_accepted, move_factor_at, nudge,
-    of_sign, one_in_each_block, random_table, rest_of_cap, shifted, spoil_limits, spoil_state, variables_at,
+    DENSE_BUDGETS, PROMISED_SIZES, damage, dense_table, filling_place, full_number, good_limits, inside_float_state, inside_state,
+    last_accepted, move_factor_at, nudge, of_sign, one_in_each_block, random_table, rest_of_cap, shifted, spoil_limits, spoil_state,
+    variables_at,
 )
 from model import FIRST_BLOCK
 from tables import WEIGHT_CAP
@@ -71,13 +72,18 @@ def any_shift(gen):
     return gen.pick((gen.take(-60, 60), gen.take(-300, 300), gen.take(-1500, 1500), gen.take(-4000, 4000), gen.pick((I64_MIN, I64_MAX))))
 
 
+def published_or_random(script, gen, turn):
+    """By turns, in space 0."""
+    if turn % 2:
+        script.published(0)
+    else:
+        random_table(script, gen, 0)
+
+
 def chains_with_refusals(script, gen):
     """Moves of a space into itself, of which some are refused and leave the space as it was."""
     for turn in range(40):
-        if turn % 2:
-            script.published(0)
-        else:
-            random_table(script, gen, 0)
+        published_or_random(script, gen, turn)
         for _ in range(10):
             script.move(0, gen.take(0, 5), any_shift(gen), 0)
             script.read(0, inside_state(gen, script.table(0)))
@@ -115,15 +121,30 @@ def border(script, gen, space, variable, into):
     script.move(space, variable, sign * (size + 1), into)
 
 
+def use_and_move_to_border(script, gen):
+    """The table in space 0 read, moved into space 1, and moved there to its border."""
+    use_table(script, gen, 0)
+    v = gen.take(0, 4)
+    move_and_use(script, gen, 0, v, gen.take(-200, 200), 1)
+    border(script, gen, 0, v, 1)
+
+
 def random_tables(script, gen):
-    """Random tables, sound or too heavy: read, moved, and moved to their border."""
+    """Sound or too heavy, with numbers at some places."""
     script.zeros(1)
     for _ in range(120):
         random_table(script, gen, 0)
-        use_table(script, gen, 0)
-        v = gen.take(0, 4)
-        move_and_use(script, gen, 0, v, gen.take(-200, 200), 1)
-        border(script, gen, 0, v, 1)
+        use_and_move_to_border(script, gen)
+
+
+def dense_random_tables(script, gen):
+    """Sound or too heavy, with numbers at a quarter of the places up to all of them."""
+    script.zeros(1)
+    for budget in DENSE_BUDGETS:
+        for quarters in (1, 2, 3, 4):
+            dense_table(script, gen, 0, budget, quarters)
+            use_and_move_to_border(script, gen)
+            script.floats(0, inside_float_state(gen, script.table(0)))
 
 
 def borders_of_moved_tables(script, gen):
@@ -131,10 +152,7 @@ def borders_of_moved_tables(script, gen):
     script.zeros(1)
     script.zeros(2)
     for turn in range(16):
-        if turn % 2:
-            random_table(script, gen, 0)
-        else:
-            script.published(0)
+        published_or_random(script, gen, turn)
         v = gen.take(0, 4)
         sign = of_sign(gen, 1)
         if script.move(0, v, sign * last_accepted(script.table(0), v, sign), 1):
@@ -206,6 +224,7 @@ SECTIONS = (
     ("Tables with bad limits", bad_limits),
     ("Damaged tables", damaged_tables),
     ("Random tables", random_tables),
+    ("Dense random tables", dense_random_tables),
     ("Borders of moved tables", borders_of_moved_tables),
     ("Weights at the cap", weights_at_the_cap),
     ("Moves at the cap", moves_at_the_cap),

@@ -3,17 +3,15 @@ drawn readings of published, moved, random, damaged and unsound tables."""
 
 from fractions import Fraction
 
-from door import nearest_bits
+from door import SIGN_BIT, nearest_bits
 from makers import (
-    SPECIAL_BITS, ZEROS, bits_of_ratio, damage, good_limits, inside_float_state, nudge, one_in_each_block, random_table, spoil_limits,
-    with_reading,
+    INFINITY, QUIET, QUIET_NAN, SPECIAL_BITS, ZEROS, bits_of_ratio, bits_of_whole, damage, good_limits, inside_float_state, nudge,
+    one_in_each_block, random_table, spoil_limits, with_reading,
 )
 from model import PUBLISHED_TABLE
 from tables import ALPHA_CUT, HIGHEST, LOWEST
 
-SIGNS = (0, 1 << 63)
-INFINITY = 0x7FF << 52
-QUIET = 1 << 51
+SIGNS = (0, SIGN_BIT)
 LARGEST_PAYLOAD = QUIET - 1
 
 
@@ -22,7 +20,7 @@ def checked_values(script, _):
     script.comment("12")
     for alpha in ("0.5", "1.5", "2.5", "1000.5", "1000.6"):
         script.floats(0, with_reading(0, nearest_bits(Fraction(alpha))))
-    script.floats(0, [nearest_bits(Fraction(2000)), 0, 0, 0, INFINITY | QUIET])
+    script.floats(0, [nearest_bits(Fraction(2000)), 0, 0, 0, QUIET_NAN])
     script.comment("13")
     script.floats(0, ZEROS)
 
@@ -44,7 +42,7 @@ def every_kind_of_nan(script, _):
                     script.floats(0, with_reading(v, sign | INFINITY | quiet | payload))
     for bit in range(52):
         for sign in SIGNS:
-            state = [bits_of_ratio(3000, 1)] * 5
+            state = [bits_of_whole(3000)] * 5
             state[bit % 5] = sign | INFINITY | 1 << bit
             script.floats(0, state)
     script.comment("their neighbours: the largest finite ones and the infinities")
@@ -96,20 +94,15 @@ def random_ones(script, gen):
         use_table(script, gen, 0)
 
 
-def damaged(script, gen):
-    script.published(0)
-    for _ in range(75):
-        script.copy(0, 1)
-        damage(script, gen, 1)
-        use_table(script, gen, 1)
-
-
-def bad_limits(script, gen):
-    script.published(0)
-    for _ in range(40):
-        script.copy(0, 1)
-        spoil_limits(script, gen, 1)
-        use_table(script, gen, 1)
+def published_with(change, times):
+    """A section of the published table, each time with another change."""
+    def section(script, gen):
+        script.published(0)
+        for _ in range(times):
+            script.copy(0, 1)
+            change(script, gen, 1)
+            use_table(script, gen, 1)
+    return section
 
 
 def near_the_cap(script, gen):
@@ -127,7 +120,7 @@ SECTIONS = (
     ("Drawn floats of the published table", published),
     ("Drawn floats of moved tables", moved),
     ("Drawn floats of random tables", random_ones),
-    ("Drawn floats of damaged tables", damaged),
-    ("Drawn floats of tables with bad limits", bad_limits),
+    ("Drawn floats of damaged tables", published_with(damage, 75)),
+    ("Drawn floats of tables with bad limits", published_with(spoil_limits, 40)),
     ("Drawn floats of tables near the cap", near_the_cap),
 )

@@ -7,7 +7,7 @@ from desk import split_lines
 
 FOLDER = pathlib.Path(__file__).resolve().parent.parent / "crates" / "desk"
 SCRIPT, ANSWERS = FOLDER / "stdin", FOLDER / "stdout"
-FEWEST_OPERATIONS, MOST_OPERATIONS, MOST_BYTES = 12500, 15000, 2000000
+FEWEST_OPERATIONS, MOST_OPERATIONS, MOST_BYTES = 12500, 16000, 2000000
 
 
 def kept_bytes(path):
@@ -35,7 +35,7 @@ def check():
         if difference is not None:
             return False, difference
     operations, size = script.operations(), len(script.written()) + len(script.answered())
-    if not FEWEST_OPERATIONS <= operations <= MOST_OPERATIONS or size > MOST_BYTES:
+    if not FEWEST_OPERATIONS <= operations <= MOST_OPERATIONS or size >= MOST_BYTES:
         return False, "desk: %d operations in %d bytes" % (operations, size)
     return True, "desk: %d lines, %d operations and %d lines that are not understood, as worked out" % (
         len(script.lines), operations, script.not_understood())

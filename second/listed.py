@@ -1,26 +1,45 @@
 """Sections in which nothing is drawn: the checked values, every limit, wrong lengths, every mixture of defects, single numbers."""
 
+from itertools import product
+
 from draws import I64_MAX, I64_MIN, MASK
-from makers import NARROW_LIMITS, PROMISED_SIZES, X_CONSTANT, X_LOW_AAA, ZEROS, last_accepted, with_reading
+from makers import (
+    INFINITY, NARROW_LIMITS, PROMISED_SIZES, QUIET_NAN, X_CONSTANT, X_LOW_AAA, ZEROS, bits_of_ratio, bits_of_whole, corners, last_accepted,
+    with_reading,
+)
 from model import BLOCK_LENGTH, FIRST_BLOCK, PUBLISHED_TABLE, TABLE_LENGTH
 from tables import HIGHEST, LOWEST, WEIGHT_CAP
 
 ODD_VARIABLES = (5, 6, 1 << 32, (1 << 32) + 1, 1 << 63, MASK)
 # the length of a table, and others about it and about those of its parts
 TABLE_LENGTHS = (311, 0, 1, 6, 10, 11, 61, 310, 312, 320)
-READ_ROOMS = (6, 5, 7) + TABLE_LENGTHS
+# those of a read and of a table, and others about them
+ROOMS = (6, 5, 7) + TABLE_LENGTHS
+NO_TABLE_ROOMS = (0, 5, 6, 7, 310, 312, 320)
 ENDS = (I64_MIN, I64_MIN + 1, -(1 << 32), -(1 << 31), (1 << 31) - 1, 1 << 32, I64_MAX - 1, I64_MAX)
 
 
+def room_of_numbers(script, space, length):
+    """A room that holds other numbers, which stay where nothing is written."""
+    script.zeros(space, length)
+    if length:
+        script.fill(space, 0, 1, MASK, 1)
+
+
+def changed_copy(script, *changes):
+    """Space 1 made what space 0 is, but for some places with other numbers."""
+    script.copy(0, 1)
+    for place, number in changes:
+        script.set(1, place, number)
+
+
 def publishing(script, _):
-    for length in TABLE_LENGTHS:
-        script.zeros(0, length)
+    """Into rooms of every length, and every number of the table."""
+    for length in ROOMS:
+        room_of_numbers(script, 0, length)
         script.publish(0)
         script.sum(0)
-    script.comment("over other numbers, and every number of it")
-    script.zeros(0)
-    script.fill(0, 0, 1, MASK, 1)
-    script.publish(0)
+    script.published(0)
     script.show(0, 0, FIRST_BLOCK)
     for start in range(FIRST_BLOCK, TABLE_LENGTH, BLOCK_LENGTH):
         script.show(0, start, BLOCK_LENGTH)
@@ -29,6 +48,16 @@ def publishing(script, _):
 def checked_values(script, _):
     script.published(0)
     script.length(1, TABLE_LENGTH)
+    checked_reads(script)
+    script.comment("8 and 9")
+    for shift in (100, -1000, -1001):
+        script.move(0, 0, shift, 1)
+        script.show(1, 0, 21)
+    checked_weights(script)
+
+
+def checked_reads(script):
+    """Of the published table in space 0."""
     script.comment("1 to 6")
     for state in (ZEROS, with_reading(0, 100), with_reading(0, 313), with_reading(0, 314), [100, 0, 0, 100, 0], with_reading(2, 100)):
         script.read(0, state)
@@ -36,10 +65,10 @@ def checked_values(script, _):
     for alpha in (1000, 1001, -150, -151):
         script.read(0, with_reading(0, alpha))
     script.read(0, [1001, 501, 0, 0, 0])
-    script.comment("8 and 9")
-    for shift in (100, -1000, -1001):
-        script.move(0, 0, shift, 1)
-        script.show(1, 0, 21)
+
+
+def checked_weights(script):
+    """Of tables in space 0, moved into space 1."""
     script.comment("10")
     script.limits(0, PUBLISHED_TABLE[:FIRST_BLOCK])
     for value in (WEIGHT_CAP, WEIGHT_CAP + 1):
@@ -64,8 +93,8 @@ def readings_at_the_limits(script, _):
     for alpha in range(310, 318):
         script.read(0, [alpha, 7, -5, 3, -2])
     script.comment("every corner, in both pieces")
-    for corner in range(32):
-        script.read(0, [t[HIGHEST[v]] if corner >> v & 1 else t[LOWEST[v]] for v in range(5)])
+    for state in corners(t):
+        script.read(0, state)
 
 
 def readings_at_the_ends(script, _):
@@ -132,32 +161,34 @@ def moves_of_the_published_table(script, _):
             script.move(0, v, shift, 2)
 
 
-def wrong_lengths(script, _):
+def published_of_length(script, space, length):
+    """The published table, cut short or with zeros behind it."""
+    script.published(space)
+    script.length(space, length)
+
+
+def wrong_lengths_of_reads(script, _):
     for length in TABLE_LENGTHS:
-        script.published(0)
-        script.length(0, length)
-        for room in READ_ROOMS:
+        published_of_length(script, 0, length)
+        for room in ROOMS:
             script.read(0, ZEROS, room)
-        script.floats(0, ZEROS)
-        script.floats(0, with_reading(1, 0x7FF << 52))
-    variable = 4                            # by turns the last one and none
-    for into, length in enumerate(TABLE_LENGTHS[1:], 1):
-        script.zeros(into, length)
+        for pattern in (bits_of_ratio(1, 4), INFINITY):
+            script.floats(0, with_reading(1, pattern))
+
+
+def wrong_lengths_of_moves(script, _):
+    """Tables and rooms of every length, with the last variable and with none."""
     for length in TABLE_LENGTHS:
-        script.published(0)
-        script.length(0, length)
-        for into in range(1, 10):
-            script.move(0, variable, 5, into)
-            variable = 9 - variable
-    script.comment("into a space of the table's length")
-    script.published(0)
-    script.length(1, TABLE_LENGTH)
-    for length in TABLE_LENGTHS:
-        script.copy(0, 2)
-        script.length(2, length)
-        script.move(2, 4, 5, 1)
-        script.move(2, 4, 5, 2)
-        script.move(2, 5, 5, 2)
+        published_of_length(script, 0, length)
+        for room in ROOMS:
+            script.length(1, room)
+            script.move(0, 4, 5, 1)
+            script.move(0, 5, 5, 1)
+    script.comment("into the same space")
+    for length in ROOMS:
+        published_of_length(script, 0, length)
+        script.move(0, 4, 5, 0)
+        script.move(0, 5, 5, 0)
 
 
 # ------------------------------------------------------------- mixed defects
@@ -197,18 +228,34 @@ def mixed_defects_of_moves(script, _):
                     script.move(mask, variable, shift, 9)
 
 
+def wrong_rooms_and_defects(script, _):
+    """Wrong rooms for publishing, moves and reads, with every mixture of a table's defects: which refusal comes first."""
+    lay_out_defects(script, True)
+    for room in NO_TABLE_ROOMS:
+        room_of_numbers(script, 9, room)
+        script.publish(9)
+        for mask in range(8):
+            for variable, shift in ((0, 0), (0, 100), (0, 3000), (5, 0), (5, 3000)):
+                script.move(mask, variable, shift, 9)
+            script.read(mask, ZEROS, room)
+            script.read(mask, [2, 0, 0, 0, 2], room)
+        script.sum(9)
+
+
 def mixed_defects_of_floats(script, _):
     """Every mixture of readings that are inside, outside and not finite, and every mixture of tables' defects with some."""
     script.published(9)
     lay_out_defects(script, False)
-    # 0.25, -5000.5 and an infinity
-    choices = (0x3FD0000000000000, 0xC0B3888000000000, 0x7FF0000000000000)
-    for mask in range(3**5):
-        script.floats(9, [choices[mask // 3**v % 3] for v in range(5)])
+    choices = (bits_of_ratio(1, 4), bits_of_ratio(-10001, 2), INFINITY)
+    for patterns in product(choices, repeat=5):
+        script.floats(9, patterns)
     for mask in range(8):
-        for first in range(3):
-            for last in range(3):
-                script.floats(mask, [choices[first], 0, 0, 0, choices[last]])
+        for first, last in product(choices, repeat=2):
+            script.floats(mask, [first, 0, 0, 0, last])
+
+
+def one_or_none(changes):
+    return [(change,) for change in changes] + [()]
 
 
 def kinds_of_defects(script, _):
@@ -216,23 +263,18 @@ def kinds_of_defects(script, _):
     limit_defects = ((0, 2001), (10, -2001), (1, 1), (0, 1), (4, -1), (7, 1))
     heavy_defects = ((11, WEIGHT_CAP + 1), (30, I64_MIN), (160, I64_MAX), (310, -WEIGHT_CAP - 1))
     script.limits(0, NARROW_LIMITS)
+    script.zeros(2)
     script.length(3, 312)
-    for place, limit in limit_defects + ((None, None),):
-        for heavy_place, number in heavy_defects + ((None, None),):
-            script.copy(0, 1)
-            script.copy(0, 2)
-            if place is not None:
-                script.set(1, place, limit)
-            if heavy_place is not None:
-                script.set(1, heavy_place, number)
-            script.read(1, [2, 0, 0, 0, 0])
-            script.read(1, [0, 0, 0, 1, -1], 7)
-            script.floats(1, [0, 0x7FF8000000000000, 0, 0x4000000000000000, 0])
-            script.floats(1, [0, 0, 0x4000000000000000, 0, 0xC000000000000000])
-            script.move(1, 0, 2000, 2)
-            script.move(1, 4, -2001, 2)
-            script.move(1, 7, 1, 2)
-            script.move(1, 7, 3000, 3)
+    for defects in product(one_or_none(limit_defects), one_or_none(heavy_defects)):
+        changed_copy(script, *sum(defects, ()))
+        script.read(1, [2, 0, 0, 0, 0])
+        script.read(1, [0, 0, 0, 1, -1], 7)
+        script.floats(1, [0, QUIET_NAN, 0, bits_of_whole(2), 0])
+        script.floats(1, [0, 0, bits_of_whole(2), 0, bits_of_whole(-2)])
+        script.move(1, 0, 2000, 2)
+        script.move(1, 4, -2001, 2)
+        script.move(1, 7, 1, 2)
+        script.move(1, 7, 3000, 3)
 
 
 # ------------------------------------------------------------- single numbers
@@ -242,8 +284,7 @@ def smallest_number(script, _):
     script.limits(0, NARROW_LIMITS)
     script.zeros(2)
     for place in range(TABLE_LENGTH):
-        script.copy(0, 1)
-        script.set(1, place, I64_MIN)
+        changed_copy(script, (place, I64_MIN))
         script.read(1, ZEROS)
         if place % 10 == 0:
             script.move(1, place // 10 % 5, 0, 2)
@@ -257,8 +298,7 @@ def single_numbers(script, _):
     script.limits(0, [-9, 2, 11, -8, 12, -7, 10, -6, 13, -5, 9])
     script.zeros(2)
     for k in range(300):
-        script.copy(0, 1)
-        script.set(1, FIRST_BLOCK + k, 1000003)
+        changed_copy(script, (FIRST_BLOCK + k, 1000003))
         script.read(1, [2, 3, -5, 7, -4])
         script.read(1, [3, -3, 5, -6, 8])
         script.move(1, k % 5, 3, 2)
@@ -266,43 +306,37 @@ def single_numbers(script, _):
 
 
 def edges_of_the_limits(script, _):
-    """Limits just good and just not, and the weights that go with a reach of 1 and with each piece's reach."""
-    base = [-5, 0, 5, -5, 5, -5, 5, -5, 5, -5, 5]
-    script.limits(0, base)
+    """Limits just good and just not."""
+    script.limits(0, [-5, 0, 5, -5, 5, -5, 5, -5, 5, -5, 5])
     script.zeros(2)
     for place in range(11):
         for limit in (-2001, -2000, 2000, 2001, 1999, -1999):
-            script.copy(0, 1)
-            script.set(1, place, limit)
+            changed_copy(script, (place, limit))
             script.read(1, ZEROS)
             script.move(1, place % 5, 0, 2)
     script.comment("lowest, cut and highest beside each other")
-    for lowest in (-1, 0, 1):
-        for cut in (-1, 0, 1):
-            for highest in (-1, 0, 1):
-                script.copy(0, 1)
-                for place, limit in enumerate((lowest, cut, highest)):
-                    script.set(1, place, limit)
-                script.read(1, ZEROS)
+    for limits in product((-1, 0, 1), repeat=3):
+        changed_copy(script, *enumerate(limits))
+        script.read(1, ZEROS)
     for v in range(1, 5):
         for lowest, highest in ((0, 0), (1, 0), (0, -1), (-2000, 2000), (2000, 2000), (2000, -2000)):
-            script.copy(0, 1)
-            script.set(1, LOWEST[v], lowest)
-            script.set(1, HIGHEST[v], highest)
+            changed_copy(script, (LOWEST[v], lowest), (HIGHEST[v], highest))
             script.read(1, ZEROS)
+
+
+def edges_of_the_reach(script, _):
+    """The weights that go with a reach of 1 and with each piece's reach."""
     script.comment("all limits 0 but alpha's highest: each reach is 1, and a number weighs its magnitude in any place")
     script.limits(0, [0, 0, 1] + [0] * 8)
     for place in range(FIRST_BLOCK, FIRST_BLOCK + BLOCK_LENGTH):
         for number in (WEIGHT_CAP, -WEIGHT_CAP - 1):
-            script.copy(0, 1)
-            script.set(1, place, number)
+            changed_copy(script, (place, number))
             script.read(1, ZEROS)
     script.comment("the high piece reaches from cut + 1")
     script.limits(0, [-4, -3, -2] + [0] * 8)
     for place, reach in ((FIRST_BLOCK + 1, 4), (FIRST_BLOCK + 11, 2), (FIRST_BLOCK + 6, 64), (FIRST_BLOCK + 16, 8)):
         for more in (0, 1):
-            script.copy(0, 1)
-            script.set(1, place, WEIGHT_CAP // reach + more)
+            changed_copy(script, (place, WEIGHT_CAP // reach + more))
             script.read(1, with_reading(0, -3))
             script.read(1, with_reading(0, -2))
 
@@ -314,12 +348,15 @@ SECTIONS = (
     ("Readings at the ends of 64 bits", readings_at_the_ends),
     ("Shifts at the ends of 64 bits", shifts_at_the_ends),
     ("Moves of the published table", moves_of_the_published_table),
-    ("Wrong lengths", wrong_lengths),
+    ("Wrong lengths of reads", wrong_lengths_of_reads),
+    ("Wrong lengths of moves", wrong_lengths_of_moves),
     ("Mixed defects of reads", mixed_defects_of_reads),
     ("Mixed defects of moves", mixed_defects_of_moves),
     ("Mixed defects of reads with floats", mixed_defects_of_floats),
+    ("Wrong rooms and defects of tables", wrong_rooms_and_defects),
     ("Two and three defects of each kind", kinds_of_defects),
     ("The smallest number at each place", smallest_number),
     ("Single numbers", single_numbers),
     ("Edges of the limits", edges_of_the_limits),
+    ("Edges of the reach", edges_of_the_reach),
 )

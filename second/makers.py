@@ -27,6 +27,11 @@ def with_reading(variable, value):
     return readings
 
 
+def corners(table):
+    """Every state in which each reading is at its lowest or its highest limit."""
+    return [[table[HIGHEST[v]] if corner >> v & 1 else table[LOWEST[v]] for v in range(5)] for corner in range(32)]
+
+
 def inside_state(gen, table):
     """Five readings within the limits, often on them or at the cut."""
     readings = []
@@ -172,6 +177,19 @@ def random_table(script, gen, space):
         script.fill(space, place, gen.pick(STEPS), budget // factor_at(limits, place) + 1, draw_seed(gen))
 
 
+# What a term may weigh where most places hold one, likewise.
+DENSE_BUDGETS = (5 * 10**17, 4 * 10**17, 2 * 10**17, 10**15, 10**12, 10**9)
+
+
+def dense_table(script, gen, space, budget, quarters):
+    """Good limits, and at so many quarters of the places drawn numbers, each weighing up to the budget in its own place."""
+    limits = good_limits(gen)
+    script.limits(space, limits)
+    for place in range(FIRST_BLOCK, FIRST_BLOCK + BLOCK_LENGTH):
+        if gen.take(1, 4) <= quarters:
+            script.fill(space, place, BLOCK_LENGTH, budget // factor_at(limits, place) + 1, draw_seed(gen))
+
+
 # --------------------------------------------------------------------- borders
 
 def last_accepted(table, variable, sign):
@@ -236,6 +254,11 @@ def one_in_each_block(script, gen, space, limits, way):
 
 
 # ---------------------------------------------------------------------- floats
+
+INFINITY = door.INFINITY_BITS
+QUIET = 1 << 51                             # the bit that tells a quiet NaN from a signalling one
+QUIET_NAN = INFINITY | QUIET
+
 
 def bits_of_ratio(numerator, denominator):
     """Pattern of numerator / denominator; used only where that is exact."""

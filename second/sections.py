@@ -1,5 +1,7 @@
 """The whole script: every section in its order, each with its own generator."""
 
+from zlib import crc32
+
 import commands
 import drawn
 import floats
@@ -10,12 +12,17 @@ from script import TITLE, Script
 SECTIONS = listed.SECTIONS + drawn.SECTIONS + floats.SECTIONS + commands.SECTIONS
 
 
+def seeded_by(title):
+    """A section's generator, which stays the same when other sections come or go."""
+    return Generator(crc32(title.encode()))
+
+
 def build():
     script = Script()
     script.comment("Cases for the desk. Each section sets the spaces that it uses.")
-    for seed, (title, section) in enumerate(SECTIONS, 1):
+    for title, section in SECTIONS:
         script.title(title)
-        section(script, Generator(seed))
+        section(script, seeded_by(title))
     return script
 
 

@@ -174,13 +174,16 @@ def check_nearest(bits, exact):
         assert error < other or (error == other and bits % 2 == 0)
 
 
-def check_float_arithmetic():
-    for bits in SPECIAL_BITS:
-        if door.is_finite(bits):
-            as_float = struct.unpack(">d", struct.pack(">Q", bits))[0]
-            assert Fraction(as_float) == door.exact_value(bits)
-            if bits << 1 & (1 << 64) - 1:
-                assert door.nearest_bits(door.exact_value(bits)) == bits
+def check_exact_values():
+    for bits in filter(door.is_finite, SPECIAL_BITS):
+        as_float = struct.unpack(">d", struct.pack(">Q", bits))[0]
+        assert Fraction(as_float) == door.exact_value(bits)
+        if as_float:                    # both zeros have the value 0, whose pattern is that of the positive one
+            assert door.nearest_bits(door.exact_value(bits)) == bits
+    assert door.exact_value(bits_of_float(1e17)) == 10**17
+
+
+def check_rounding():
     smallest = Fraction(1, 1 << 1074)
     assert door.nearest_bits(smallest / 2) == 0
     assert door.nearest_bits(smallest * 3 / 2) == 2
@@ -191,7 +194,9 @@ def check_float_arithmetic():
                           (-(2**53) - 1, -(2**53)), (2**54 - 1, 2**54),
                           (2**62 + 512, 2**62), (2**62 + 513, 2**62 + 1024)):
         assert door.nearest_float_whole(number) == whole
-    assert door.exact_value(bits_of_float(1e17)) == 10**17
+
+
+def check_drawn_rounding():
     gen = Generator(101)
     for _ in range(2000):
         number = gen.take(-9 * 10**18, 9 * 10**18) >> gen.take(0, 60)
@@ -225,22 +230,27 @@ def check_one_move(gen, table, variable, shift):
         outside = with_reading(variable, table[tables.HIGHEST[variable]] + 1)
         assert (read(table, outside)[0]
                 == read(moved, shifted(outside, variable, shift))[0])
+    check_second_moves(gen, table, variable, shift, moved)
+    return True
+
+
+def check_second_moves(gen, table, variable, shift, moved):
+    """Back, on in the same variable, and in another one before or after."""
     back, restored = move(moved, variable, -shift)
     assert back in (0, 7) and (back == 7 or restored == table)
     again = gen.take(-50, 50)
-    second, twice = move(moved, variable, again)
-    at_once, direct = move(table, variable, shift + again)
-    if second == at_once == 0:
-        assert twice == direct
+    check_same(move(moved, variable, again), move(table, variable, shift + again))
     other = (variable + gen.take(1, 4)) % 5
     by = gen.take(-50, 50)
-    one_way = move(moved, other, by)
     first_other, aside = move(table, other, by)
     if first_other == 0:
-        other_way = move(aside, variable, shift)
-        if one_way[0] == other_way[0] == 0:
-            assert one_way[1] == other_way[1]
-    return True
+        check_same(move(moved, other, by), move(aside, variable, shift))
+
+
+def check_same(one, other):
+    """Two moves to the same place, where both are accepted."""
+    if one[0] == other[0] == 0:
+        assert one == other
 
 
 def check_moves():
@@ -388,8 +398,8 @@ def check_desk():
 
 CHECKS = (
     check_printed_text, check_published_reads, check_values_1_to_7, check_values_8_and_9, check_values_10_and_11,
-    check_values_12_and_13, check_float_arithmetic, check_promised_moves, check_moves, check_refusal_order, check_tables_at_cap,
-    check_moves_at_cap, check_float_reads, check_line_program, check_draws, check_desk,
+    check_values_12_and_13, check_exact_values, check_rounding, check_drawn_rounding, check_promised_moves, check_moves,
+    check_refusal_order, check_tables_at_cap, check_moves_at_cap, check_float_reads, check_line_program, check_draws, check_desk,
 )
 
 if __name__ == "__main__":

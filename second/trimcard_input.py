@@ -1,7 +1,7 @@
 """A test input for the line program: good lines at every edge, and bad ones."""
 
 from draws import Generator
-from makers import inside_state, spoil_state
+from makers import ZEROS, corners, inside_state, spoil_state, with_reading
 from model import PUBLISHED_TABLE
 from tables import HIGHEST, LOWEST
 
@@ -12,18 +12,14 @@ def number_line(readings):
 
 def edge_lines():
     t = PUBLISHED_TABLE
-    lines = [number_line([0] * 5)]
+    lines = [number_line(ZEROS)]
     for v in range(5):
         for value in (t[LOWEST[v]] - 1, t[LOWEST[v]], -1, 1, t[HIGHEST[v]],
                       t[HIGHEST[v]] + 1, -9999, 9999):
-            readings = [0] * 5
-            readings[v] = value
-            lines.append(number_line(readings))
+            lines.append(number_line(with_reading(v, value)))
     for alpha in (312, 313, 314, 315):
-        lines.append(number_line([alpha, 0, 0, 0, 0]))
-    for corner in range(32):
-        lines.append(number_line(
-            [t[HIGHEST[v]] if corner >> v & 1 else t[LOWEST[v]] for v in range(5)]))
+        lines.append(number_line(with_reading(0, alpha)))
+    lines += map(number_line, corners(t))
     lines.append(number_line([1001, 501, 201, 401, 501]))
     lines.append(number_line([0, 0, -201, 0, 501]))
     return lines

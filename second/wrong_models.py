@@ -11,7 +11,10 @@ import door
 import tables
 from door import POSITIVE_ZERO, SIGN_BIT
 from draws import I64_MIN, MASK, signed
-from model import ALPHA, BETA, BLOCK_COUNT, BLOCK_LENGTH, FIRST_BLOCK, HIGH_GROUP, PUBLISHED_LIMITS, PUBLISHED_TABLE, XI_GROUP, ZETA_GROUP
+from model import (
+    ALPHA, BETA, BLOCK_COUNT, BLOCK_LENGTH, ETA, FIRST_BLOCK, HIGH_GROUP, LOW_GROUP, PUBLISHED_LIMITS, PUBLISHED_TABLE, TABLE_LENGTH,
+    XI_GROUP, ZETA_GROUP,
+)
 from tables import LOWEST, HIGHEST, READING_OUTSIDE
 
 # The right functions, for wrong ones that differ from them in one respect.
@@ -24,6 +27,7 @@ right_moved_table = tables.moved_table
 right_power_moved = tables.power_moved
 right_answer_bits = door.answer_bits
 right_reaches = tables.reaches
+right_publish = tables.publish
 right_read = tables.read
 right_sums = tables.sums
 right_table_tests = tables.table_tests
@@ -56,6 +60,14 @@ def in_door(name, replacement):
 def published_with(place, number):
     table = PUBLISHED_TABLE[:place] + (number,) + PUBLISHED_TABLE[place + 1:]
     return in_tables("PUBLISHED_TABLE", table)
+
+
+def low_and_high_exchanged():
+    """The published table with each block's two groups of alpha and eta in the other order."""
+    table = list(PUBLISHED_TABLE)
+    for parts in tables.PARTS:
+        table[parts[LOW_GROUP]], table[parts[HIGH_GROUP]] = table[parts[HIGH_GROUP]], table[parts[LOW_GROUP]]
+    return in_tables("PUBLISHED_TABLE", tuple(table))
 
 
 def wrong_signs():
@@ -109,8 +121,18 @@ def refused_move_writes_limits(table, variable, shift, output):
     return number
 
 
-def rudder_group_not_moved(variable):
-    return [group for group in right_moved_groups(variable) if (variable, group) != (BETA, ZETA_GROUP)]
+def not_moved(left_out, variables):
+    """A group left as it is by the moves of some variables."""
+    return in_tables("moved_groups", lambda variable: [
+        group for group in right_moved_groups(variable) if group != left_out or variable not in variables])
+
+
+def variable_cut(table, variable, shift, output):
+    return right_move(table, variable & 0xFFFFFFFF, shift, output)
+
+
+def shift_cut(table, variable, shift, output):
+    return right_move(table, variable, low_half(shift), output)
 
 
 # -------------------------------------------------------------------- weights
@@ -165,10 +187,23 @@ def with_test(number, holds):
     return in_tables("table_tests", lambda table: {**right_table_tests(table), number: lambda: holds(table)})
 
 
-def room_not_checked(table, readings, output):
-    room = output[:6]
-    number = right_read(table, readings, room) if len(output) > 6 else right_read(table, readings, output)
-    output[:6] = room
+def longer_taken(operation, length):
+    """An operation that writes at the start of a room that is too long; the room is its last argument."""
+    def with_longer(*arguments):
+        *others, output = arguments
+        room = output[:length]
+        number = operation(*others, room)
+        output[:length] = room
+        return number
+    return with_longer
+
+
+def shorter_taken(table, variable, shift, output):
+    """A move that writes as much as there is room for where that is less than a table."""
+    room = desk.lent(max(TABLE_LENGTH, len(output)))
+    number = right_move(table, variable, shift, room)
+    if number == tables.DONE:
+        output[:] = room[:len(output)]
     return number
 
 
@@ -290,14 +325,21 @@ MODELS = (
     Wrong("what a move throws into the pure places dropped", "The published table moved", "read",
           in_tables("term_moved", pure_places_dropped)),
     Wrong("only the moved table weighed", "Borders of moved tables", "move", in_tables("move_is_too_heavy", only_moved_table_weighed)),
-    Wrong("a reach of 0", "Edges of the limits", "read", in_tables("reach_between", lambda low, high: max(abs(low), abs(high)))),
+    Wrong("a reach of 0", "Edges of the reach", "read", in_tables("reach_between", lambda low, high: max(abs(low), abs(high)))),
+    # the published table
+    Wrong("the low and the high group exchanged", "Readings at the limits", "read", low_and_high_exchanged()),
     # moves
     Wrong("the polynomials moved the other way", "The published table moved", "read",
           in_tables("power_moved", lambda power, shift: right_power_moved(power, -shift))),
     Wrong("the limits left behind by a second move", "Composed moves", "read", in_tables("moved_limits", limits_moved_once)),
     Wrong("a wrong number in the row of the fourth power", "Single numbers", "move", in_tables("power_moved", row_of_four_wrong)),
     Wrong("the rudder group not moved with beta", "The published table moved", "read",
-          in_tables("moved_groups", rudder_group_not_moved)),
+          not_moved(ZETA_GROUP, (BETA,))),
+    Wrong("the high group not moved", "The published table moved", "read", not_moved(HIGH_GROUP, (ALPHA, ETA))),
+    Wrong("the limits moved the other way", "The published table moved", "read",
+          in_tables("moved_limits", lambda limits, variable, shift: right_moved_limits(limits, variable, -shift))),
+    Wrong("a variable cut to 32 bits", "Moves of the published table", "move", in_tables("move", variable_cut)),
+    Wrong("a shift cut to 32 bits", "Shifts at the ends of 64 bits", "move", in_tables("move", shift_cut)),
     Wrong("a refused move that writes limits", "Checked values 1 to 11", "move", in_tables("move", refused_move_writes_limits)),
     Wrong("a move weighed at the old reach", "Moves at the cap", "move", in_tables("move_weights", weighed_at_old_reach)),
     Wrong("a move weighed by its shift and not its size", "Moves at the cap", "move",
@@ -307,7 +349,7 @@ MODELS = (
     # weights
     Wrong("the cap one higher", "Weights at the cap", "read", in_tables("WEIGHT_CAP", tables.WEIGHT_CAP + 1)),
     Wrong("the cap one lower", "Weights at the cap", "read", in_tables("WEIGHT_CAP", tables.WEIGHT_CAP - 1)),
-    Wrong("the high piece's reach from the cut", "Edges of the limits", "read", in_tables("reaches", high_reach_from_cut)),
+    Wrong("the high piece's reach from the cut", "Edges of the reach", "read", in_tables("reaches", high_reach_from_cut)),
     Wrong("the last block not weighed", "The smallest number at each place", "read", in_tables("weights", last_block_not_weighed)),
     Wrong("all blocks weighed as one", "A number in each block", "read", in_tables("weights", blocks_weighed_together)),
     Wrong("weights modulo 2^64", "Random tables", "read", in_tables("weights", wrapped_weights)),
@@ -324,8 +366,14 @@ MODELS = (
           in_tables("read", lambda table, readings, output: right_read(table, [low_half(reading) for reading in readings], output))),
     Wrong("the rudder group not read", "Single numbers", "read", in_tables("SIDE_GROUPS", (XI_GROUP,))),
     # lengths
-    Wrong("a longer table taken", "Wrong lengths", "read", with_test(tables.WRONG_TABLE_LENGTH, lambda table: len(table) < 311)),
-    Wrong("a longer room taken by a read", "Wrong lengths", "read", in_tables("read", room_not_checked)),
+    Wrong("a longer table taken", "Wrong lengths of reads", "read", with_test(tables.WRONG_TABLE_LENGTH, lambda table: len(table) < 311)),
+    Wrong("a table without its last number taken", "Wrong lengths of reads", "read",
+          with_test(tables.WRONG_TABLE_LENGTH, lambda table: len(table) not in (310, 311))),
+    Wrong("a longer room taken by a read", "Wrong lengths of reads", "read",
+          in_tables("read", longer_taken(right_read, tables.READ_LENGTH))),
+    Wrong("a longer room taken by publishing", "Publishing", "publish", in_tables("publish", longer_taken(right_publish, TABLE_LENGTH))),
+    Wrong("a longer room taken by a move", "Wrong lengths of moves", "move", in_tables("move", longer_taken(right_move, TABLE_LENGTH))),
+    Wrong("a shorter room taken by a move", "Wrong lengths of moves", "move", in_tables("move", shorter_taken)),
     # the order of refusals
     Wrong("a read's room before its table's length", "Mixed defects of reads", "read",
           in_tables("READ_ORDER", (2, 1, 3, 4) + READING_OUTSIDE)),
@@ -334,6 +382,16 @@ MODELS = (
           in_tables("READ_ORDER", READ_TESTS + READING_OUTSIDE[::-1])),
     Wrong("a move's variable behind its table", "Mixed defects of moves", "move", in_tables("MOVE_ORDER", (1, 2, 3, 4, 5, 6, 7))),
     Wrong("a move's weight before its limits", "Mixed defects of moves", "move", in_tables("MOVE_ORDER", (1, 2, 5, 3, 4, 7, 6))),
+    Wrong("a move's room before its table's length", "Wrong rooms and defects of tables", "move",
+          in_tables("MOVE_ORDER", (2, 1, 5, 3, 4, 6, 7))),
+    Wrong("a move's room behind its variable", "Wrong rooms and defects of tables", "move",
+          in_tables("MOVE_ORDER", (1, 5, 2, 3, 4, 6, 7))),
+    Wrong("a move's room behind its table", "Wrong rooms and defects of tables", "move",
+          in_tables("MOVE_ORDER", (1, 3, 4, 2, 5, 6, 7))),
+    Wrong("a read's room behind its table", "Wrong rooms and defects of tables", "read",
+          in_tables("READ_ORDER", (1, 3, 4, 2) + READING_OUTSIDE)),
+    Wrong("outside asked before not finite", "Mixed defects of reads with floats", "floats",
+          in_door("DOOR_ORDER", (1, 3, 4) + READING_OUTSIDE + door.NOT_FINITE)),
     Wrong("not finite asked reading by reading", "Mixed defects of reads with floats", "floats",
           in_door("DOOR_ORDER", (1, 3, 4) + interleaved(door.NOT_FINITE, READING_OUTSIDE))),
     # floats
@@ -357,7 +415,7 @@ MODELS = (
 
 # A desk around the right model that does not do what it is told.
 DESKS = (
-    Wrong("a space changed by a refusal", "Moves into the same space, and wrong rooms", "sum",
+    Wrong("a space changed by a refusal", "Rooms that are wrong", "sum",
           (desk.Desk, "write", changed_after_refusal)),
     Wrong("a line of 256 bytes called too long", "Long lines", "sum", (desk, "LONGEST_LINE", 255)),
     Wrong("a line of 257 bytes taken", "Long lines", "sum", (desk, "LONGEST_LINE", 257)),
