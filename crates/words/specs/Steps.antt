@@ -1,0 +1,43 @@
+-- What the code finds on its way to a word and to its number. That it leads to what `Words` and `Numbers` say is shown in `proofs/`.
+use mathlib.Core.Path.{_≡_}
+use mathlib.Core.Bool.{Bool, cond, Bool·beq}
+use mathlib.Core.List.{List, [], _∷_}
+use Prim.Native.Nat.{ℕ, _+_, _*_, _≤_}
+use lib.Dec.{leb, eqb}
+use lib.ListN.{length, drop}
+use Rattle.words.specs.Words.{words, wordAt, IsAt}
+use Rattle.words.specs.Numbers.{digitOf}
+use Rattle.words.specs.declared.Word.{Word}
+use Rattle.words.specs.declared.Digits.{Digits}
+use Rattle.words.specs.declared.Digits.the-variants.{Said, Unsaid}
+
+-- the bytes in front that are spaces, or that are none
+abbrev pub run : Bool → List ℕ → List ℕ
+run space [] = []
+run space (b ∷ bs) = cond (Bool·beq (eqb b 32) space) (b ∷ run space bs) []
+
+-- the first word from a place on, behind which the other words stand
+pub record First (line : List ℕ) (from : ℕ) (word : Word) : Type 0 where
+  pub forward : from ≤ word .start
+  pub at : IsAt line (wordAt (drop from line) 0) word
+  pub later : words (drop (word .end) line) ≡ drop 1 (words (drop from line))
+
+-- the first words are passed
+pub record Passed (line : List ℕ) (count place : ℕ) : Type 0 where
+  pub within : place ≤ length line
+  pub later : words (drop place line) ≡ drop count (words line)
+
+-- a base and a limit that leave room for a digit
+pub record Ready (base limit : ℕ) : Type 0 where
+  pub some : 1 ≤ base
+  pub known : base ≤ 16
+  pub room : 16 ≤ limit
+
+-- one digit more
+abbrev pub extended : ℕ → ℕ → ℕ → ℕ → Digits
+extended base limit value digit =
+    cond (leb base digit) Unsaid (cond (leb (value * base + digit) limit) (Said (value * base + digit)) Unsaid)
+
+abbrev pub withByte : ℕ → ℕ → Digits → ℕ → Digits
+withByte base limit Unsaid b = Unsaid
+withByte base limit (Said value) b = extended base limit value (digitOf b)

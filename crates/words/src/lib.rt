@@ -1,0 +1,278 @@
+// The words of a line, which spaces part, and the numbers that they say.
+ghost use mathlib.Core.Path.{_≡_};
+ghost use mathlib.Core.Bool.{cond};
+ghost use Prim.Native.Nat.{_+_, _-_, _≤_};
+ghost use lib.ListN.{length, drop};
+ghost use lib.Seq.{slice};
+ghost use Rattle.words.specs.Words.{words, wordAt, same, IsAt};
+ghost use Rattle.words.specs.Numbers.{digitOf, digits, magnitude, signless, isSaid, valueOf, hasMinus, isNumber, naturalAt, bitsAt, signedAt, signed, least};
+ghost use Rattle.words.specs.Steps.{run, First, Passed, Ready, extended, withByte};
+
+// The largest number of 64 bits, and the distance of the least signed one from 0.
+const LARGEST: u64 = 18446744073709551615;
+const LEAST: u64 = 9223372036854775808;
+
+// Where a word stands: from its start up to its end.
+pub struct Word {
+    pub start: usize,
+    pub end: usize,
+}
+
+// What a word is read as.
+pub enum Kind {
+    Natural,
+    Signed,
+    Bits,
+}
+
+// The number that digits say, or that they say none.
+pub enum Digits {
+    Said(u64),
+    Unsaid,
+}
+
+// The place behind the bytes from a place on that are spaces, or that are none.
+fn run_end(line: &[u8], from: usize, space: bool) -> usize
+    ensures { λ r. ⌜ r ≡ from + length (run space (drop from (now (line .entry)))) ⌝ }
+{
+    let mut at = from;
+    while at < line.len() {
+        if (line[at] == b' ') != space {
+            return at;
+        }
+        at += 1;
+    }
+    at
+}
+
+// The first word from a place on.
+fn first_word(line: &[u8], from: usize) -> Word
+    requires { ⌜ from ≤ length (now line) ⌝ }
+    ensures { λ r. ⌜ First (now (line .entry)) from r ⌝ }
+{
+    let start = run_end(line, from, true);
+    let end = run_end(line, start, false);
+    Word { start, end }
+}
+
+// The place behind the first `count` words.
+fn behind_words(line: &[u8], count: usize) -> usize
+    ensures { λ r. ⌜ Passed (now (line .entry)) count r ⌝ }
+{
+    let mut at: usize = 0;
+    let mut passed: usize = 0;
+    while passed < count {
+        let word = first_word(line, at);
+        at = word.end;
+        passed += 1;
+    }
+    at
+}
+
+// A word by its place, from 0 on; an empty one where there are fewer.
+pub fn word_at(line: &[u8], k: usize) -> Word
+    ensures { λ r. ⌜ IsAt (now (line .entry)) (wordAt (now (line .entry)) k) r ⌝ }
+{
+    let from = behind_words(line, k);
+    first_word(line, from)
+}
+
+// How many words there are.
+pub fn word_count(line: &[u8]) -> usize
+    ensures { λ r. ⌜ r ≡ length (words (now (line .entry))) ⌝ }
+{
+    let mut count: usize = 0;
+    let mut at: usize = 0;
+    loop {
+        let word = first_word(line, at);
+        at = word.end;
+        if word.start >= at {
+            return count;
+        }
+        count += 1;
+    }
+}
+
+// Whether a part of one line is a part of another, byte for byte.
+fn same_part(a: &[u8], from: usize, end: usize, b: &[u8], start: usize, stop: usize) -> bool
+    requires { ⌜ (end ≤ length (now a)) × (stop ≤ length (now b)) ⌝ }
+    ensures { λ r. ⌜ r ≡ same (slice from end (now (a .entry))) (slice start stop (now (b .entry))) ⌝ }
+{
+    let mut i = from;
+    let mut j = start;
+    while i < end {
+        if j >= stop {
+            return false;
+        }
+        if a[i] != b[j] {
+            return false;
+        }
+        i += 1;
+        j += 1;
+    }
+    j >= stop
+}
+
+// Whether a word of one line is a word of another, byte for byte.
+pub fn same_word(a: &[u8], i: usize, b: &[u8], k: usize) -> bool
+    ensures { λ r. ⌜ r ≡ same (wordAt (now (a .entry)) i) (wordAt (now (b .entry)) k) ⌝ }
+{
+    let one = word_at(a, i);
+    let other = word_at(b, k);
+    same_part(a, one.start, one.end, b, other.start, other.end)
+}
+
+// What a byte is worth as a digit: 16 where it is none.
+fn digit_of(byte: u8) -> u64
+    ensures { λ r. ⌜ r ≡ digitOf byte ⌝ }
+{
+    if byte < b'0' {
+        return 16;
+    }
+    if byte <= b'9' {
+        return (byte - b'0') as u64;
+    }
+    if byte < b'a' {
+        return 16;
+    }
+    if byte <= b'f' {
+        return (byte - b'a') as u64 + 10;
+    }
+    16
+}
+
+// One digit more. The second test asks whether the limit is passed, without passing it.
+fn extended(value: u64, digit: u64, base: u64, limit: u64) -> Digits
+    requires { ⌜ Ready base limit ⌝ }
+    ensures { λ r. ⌜ r ≡ extended base limit value digit ⌝ }
+{
+    if digit >= base {
+        return Digits::Unsaid;
+    }
+    if value > (limit - digit) / base {
+        return Digits::Unsaid;
+    }
+    Digits::Said(value * base + digit)
+}
+
+// One byte more.
+fn with_byte(past: Digits, byte: u8, base: u64, limit: u64) -> Digits
+    requires { ⌜ Ready base limit ⌝ }
+    ensures { λ r. ⌜ r ≡ withByte base limit past byte ⌝ }
+{
+    match past {
+        Digits::Said(value) => extended(value, digit_of(byte), base, limit),
+        Digits::Unsaid => Digits::Unsaid,
+    }
+}
+
+// The number that a part of a line says by its digits.
+fn digits_in(line: &[u8], start: usize, end: usize, base: u64, limit: u64) -> Digits
+    requires { ⌜ (end ≤ length (now line)) × Ready base limit ⌝ }
+    ensures { λ r. ⌜ r ≡ digits base limit (slice start end (now (line .entry))) ⌝ }
+{
+    if start >= end {
+        return Digits::Unsaid;
+    }
+    let mut past = Digits::Said(0);
+    let mut at = start;
+    while at < end {
+        past = with_byte(past, line[at], base, limit);
+        at += 1;
+    }
+    past
+}
+
+// Whether a part of a line starts with a minus.
+fn minus_in(line: &[u8], start: usize, end: usize) -> bool
+    requires { ⌜ end ≤ length (now line) ⌝ }
+    ensures { λ r. ⌜ r ≡ hasMinus (slice start end (now (line .entry))) ⌝ }
+{
+    if start >= end {
+        return false;
+    }
+    line[start] == b'-'
+}
+
+// The number that a part of a line says behind its minus, where it has one.
+fn signless_in(line: &[u8], start: usize, end: usize) -> Digits
+    requires { ⌜ end ≤ length (now line) ⌝ }
+    ensures { λ r. ⌜ r ≡ signless (slice start end (now (line .entry))) ⌝ }
+{
+    if minus_in(line, start, end) {
+        return digits_in(line, start + 1, end, 10, LEAST);
+    }
+    digits_in(line, start, end, 10, LEAST - 1)
+}
+
+// The number that a word says, without its sign.
+fn magnitude_at(line: &[u8], k: usize, kind: Kind) -> Digits
+    ensures { λ r. ⌜ r ≡ magnitude kind (wordAt (now (line .entry)) k) ⌝ }
+{
+    let word = word_at(line, k);
+    match kind {
+        Kind::Natural => digits_in(line, word.start, word.end, 10, LARGEST),
+        Kind::Signed => signless_in(line, word.start, word.end),
+        Kind::Bits => digits_in(line, word.start, word.end, 16, LARGEST),
+    }
+}
+
+fn is_said(digits: Digits) -> bool
+    ensures { λ r. ⌜ r ≡ isSaid digits ⌝ }
+{
+    match digits {
+        Digits::Said(_) => true,
+        Digits::Unsaid => false,
+    }
+}
+
+fn value_of(digits: Digits) -> u64
+    ensures { λ r. ⌜ r ≡ valueOf digits ⌝ }
+{
+    match digits {
+        Digits::Said(value) => value,
+        Digits::Unsaid => 0,
+    }
+}
+
+// Whether a word says a number of a kind.
+pub fn is_number(line: &[u8], k: usize, kind: Kind) -> bool
+    ensures { λ r. ⌜ r ≡ isNumber (now (line .entry)) k kind ⌝ }
+{
+    is_said(magnitude_at(line, k, kind))
+}
+
+// The number of a word; 0 where it says none of its kind.
+pub fn natural_at(line: &[u8], k: usize) -> u64
+    ensures { λ r. ⌜ r ≡ naturalAt (now (line .entry)) k ⌝ }
+{
+    value_of(magnitude_at(line, k, Kind::Natural))
+}
+
+pub fn bits_at(line: &[u8], k: usize) -> u64
+    ensures { λ r. ⌜ r ≡ bitsAt (now (line .entry)) k ⌝ }
+{
+    value_of(magnitude_at(line, k, Kind::Bits))
+}
+
+// A magnitude with its sign. The least number has no magnitude that is a signed number of 64 bits.
+fn signed(negative: bool, value: u64) -> i64
+    requires { ⌜ value ≤ cond negative least (least - 1) ⌝ }
+    ensures { λ r. ⌜ r ≡ signed negative value ⌝ }
+{
+    if negative {
+        if value >= LEAST {
+            return i64::MIN;
+        }
+        return -(value as i64);
+    }
+    value as i64
+}
+
+pub fn signed_at(line: &[u8], k: usize) -> i64
+    ensures { λ r. ⌜ r ≡ signedAt (now (line .entry)) k ⌝ }
+{
+    let word = word_at(line, k);
+    let negative = minus_in(line, word.start, word.end);
+    signed(negative, value_of(magnitude_at(line, k, Kind::Signed)))
+}
