@@ -10,6 +10,7 @@ ghost use Rattle.words.specs.Steps.{run, First, Passed, Ready, extended,
 
 // The largest number of 64 bits, and the distance of the least signed one from 0.
 const LARGEST: u64 = 18446744073709551615;
+
 const LEAST: u64 = 9223372036854775808;
 
 // Where a word stands: from its start up to its end.

@@ -31,9 +31,9 @@ returns c =
       at = record {
         ordered = omega (arith, c .run-end2 .ensures);
         within = omega (arith, ends, first-within l (a .from) (s .pre));
-        bytes = ap₂ (λ n m. slice n m l) starts ends ∙ first-run l (a .from) (s .pre)
+        bytes = ap₂ (λ n m. slice n m l) starts ends ∙ first-run l (a .from) (s .pre);
       };
-      later = ap (λ n. words (drop n l)) ends ∙ later-run l (a .from) (s .pre)
+      later = ap (λ n. words (drop n l)) ends ∙ later-run l (a .from) (s .pre);
     }
 
 pub first-word-spec : {M : Type 1} → statement M
