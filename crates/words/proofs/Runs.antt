@@ -1,14 +1,15 @@
 -- The first word of a line, by the runs of bytes that are spaces and that are none.
 --   run-slice, run-drop   the bytes of a run from a place on, and what stands behind it
 --   first-run, later-run  the first word, and the words behind it
---   none-left, some-left  how many words there are, by the first
+--   word-some             whether there is a word
 use mathlib.Core.Path.{_≡_, refl, sym, ap, _∙_}
 use mathlib.Core.Bool.{Bool, true, false, cond, Bool·beq}
 use mathlib.Core.List.{List, [], _∷_, _++_}
 use Prim.Native.Nat.{ℕ, zero, suc, _+_, _-_, _≤_, _<_}
 use native.Mathlib.Omega.{arith}
-use lib.Dec.{eqb}
-use lib.ListN.{length, take, drop, getD, length-drop, length-append}
+use borrow.Author.Tests.{ltb-true, ltb-false, lt-ltb, le-ltb}
+use lib.Dec.{eqb, ltb}
+use lib.ListN.{length, take, drop, getD, length-drop, length-append, List·getD-eq-default}
 use lib.Seq.{slice, length-take-le, take-add, drop-at, drop-drop, take-append-seam, drop-append-seam}
 use Rattle.words.specs.Words.{onto, parts, unlessEmpty, nonEmpty, words, wordAt}
 use Rattle.words.specs.Steps.{run}
@@ -120,17 +121,19 @@ module _ (line : List ℕ) (from : ℕ) (h : from ≤ length line) where
       ap words (run-drop false line start start-within ∙ ap (behind false) (run-drop true line from h))
       ∙ sym (split (drop from line) .1)
 
--- ════ how many there are
-empty-none : (ps : List (List ℕ)) → getD (nonEmpty ps) 0 [] ≡ [] → nonEmpty ps ≡ []
-empty-none [] e = refl
-empty-none ([] ∷ ps) e = empty-none ps e
-empty-none ((b ∷ bs) ∷ ps) e = absurd (omega (arith, ap length e))
+-- ════ how many there are: no word is empty
+some-words : (ps : List (List ℕ)) (k : ℕ) → k < length (nonEmpty ps) → 0 < length (getD (nonEmpty ps) k [])
+some-words [] k h = absurd (omega arith)
+some-words ([] ∷ ps) k h = some-words ps k h
+some-words ((b ∷ bs) ∷ ps) zero h = omega arith
+some-words ((b ∷ bs) ∷ ps) (suc k) h = some-words ps k (omega arith)
 
--- no word is empty
-pub none-left : (l : List ℕ) → wordAt l 0 ≡ [] → length (words l) ≡ 0
+-- so a place that is not empty holds one, and one that is empty holds none
+pub word-some : (line : List ℕ) (k start end : ℕ) → length (wordAt line k) ≡ end - start → ltb start end ≡ ltb k (length (words line))
 unfolding words
-none-left l e = ap length (empty-none (parts l) e)
-
-pub some-left : (ws : List (List ℕ)) → 0 < length (getD ws 0 []) → length ws ≡ 1 + length (drop 1 ws)
-some-left [] h = absurd (omega arith)
-some-left (w ∷ ws) h = omega arith
+word-some line k start end e = pick (ltb k (length (words line))) refl
+  where
+    pick : (t : Bool) → ltb k (length (words line)) ≡ t → ltb start end ≡ t
+    pick true h = lt-ltb start end (omega (arith, some-words (parts line) k (ltb-true k (length (words line)) h)))
+    pick false h =
+        le-ltb start end (omega (arith, ap length (List·getD-eq-default (words line) [] {n = k} (ltb-false k (length (words line)) h))))

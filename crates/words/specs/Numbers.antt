@@ -6,14 +6,13 @@ use lib.Dec.{leb, ltb, eqb}
 use lib.IntN.{ℤ, pos, negℤ}
 use lib.ListN.{drop}
 use Rattle.words.specs.Words.{wordAt}
-use Rattle.words.specs.declared.Digits.{Digits}
-use Rattle.words.specs.declared.Digits.the-variants.{Said, Unsaid}
+use Rattle.words.specs.declared.Number.{Number}
 use Rattle.words.specs.declared.Kind.{Kind}
 use Rattle.words.specs.declared.Kind.the-variants.{Natural, Signed, Bits}
 
 -- ════ digits: 0 to 9 and a to f, of which a base has those below it
 abbrev pub digitOf : ℕ → ℕ
-digitOf b = cond (ltb b 48) 16 (cond (leb b 57) (b - 48) (cond (ltb b 97) 16 (cond (leb b 102) (b - 97 + 10) 16)))
+digitOf b = cond (ltb b 48) 16 (cond (leb b 57) (b - 48) (cond (ltb b 97) 16 (cond (leb b 102) (b - 87) 16)))
 
 abbrev pub allDigits : ℕ → List ℕ → Bool
 allDigits base [] = true
@@ -24,11 +23,17 @@ abbrev pub valueOn : ℕ → ℕ → List ℕ → ℕ
 valueOn base v [] = v
 valueOn base v (b ∷ bs) = valueOn base (v * base + digitOf b) bs
 
+abbrev pub said : ℕ → Number
+said n = record { said = true; value = n }
+
+abbrev pub unsaid : Number
+unsaid = record { said = false; value = 0 }
+
 -- one or more digits say a number, where it is within the limit
-abbrev pub digits : ℕ → ℕ → List ℕ → Digits
-digits base limit [] = Unsaid
+abbrev pub digits : ℕ → ℕ → List ℕ → Number
+digits base limit [] = unsaid
 digits base limit (b ∷ bs) =
-    cond (allDigits base (b ∷ bs) && leb (valueOn base 0 (b ∷ bs)) limit) (Said (valueOn base 0 (b ∷ bs))) Unsaid
+    cond (allDigits base (b ∷ bs) && leb (valueOn base 0 (b ∷ bs)) limit) (said (valueOn base 0 (b ∷ bs))) unsaid
 
 -- ════ words
 abbrev pub largest : ℕ
@@ -41,35 +46,30 @@ abbrev pub hasMinus : List ℕ → Bool
 hasMinus [] = false
 hasMinus (b ∷ bs) = eqb b 45
 
-abbrev pub signless : List ℕ → Digits
+abbrev pub signless : List ℕ → Number
 signless w = cond (hasMinus w) (digits 10 least (drop 1 w)) (digits 10 (least - 1) w)
 
 -- decimal from 0 to 2^64 - 1; decimal from -2^63 to 2^63 - 1, with a minus in front where it is negative; hexadecimal
-unfoldable pub magnitude : Kind → List ℕ → Digits
+unfoldable pub magnitude : Kind → List ℕ → Number
 magnitude Natural w = digits 10 largest w
 magnitude Signed w = signless w
 magnitude Bits w = digits 16 largest w
 
-abbrev pub isSaid : Digits → Bool
-isSaid (Said n) = true
-isSaid Unsaid = false
-
-abbrev pub valueOf : Digits → ℕ
-valueOf (Said n) = n
-valueOf Unsaid = 0
-
 abbrev pub signed : Bool → ℕ → ℤ
 signed negative n = cond negative (negℤ (pos n)) (pos n)
 
--- ════ the words of a line by their places
+abbrev pub signedOf : List ℕ → ℤ
+signedOf w = signed (hasMinus w) (magnitude Signed w .value)
+
+-- ════ the words of a line by their places; 0 where a word says no number of its kind
 abbrev pub isNumber : List ℕ → ℕ → Kind → Bool
-isNumber line k kind = isSaid (magnitude kind (wordAt line k))
+isNumber line k kind = magnitude kind (wordAt line k) .said
 
 abbrev pub naturalAt : List ℕ → ℕ → ℕ
-naturalAt line k = valueOf (magnitude Natural (wordAt line k))
+naturalAt line k = magnitude Natural (wordAt line k) .value
 
 abbrev pub bitsAt : List ℕ → ℕ → ℕ
-bitsAt line k = valueOf (magnitude Bits (wordAt line k))
+bitsAt line k = magnitude Bits (wordAt line k) .value
 
 abbrev pub signedAt : List ℕ → ℕ → ℤ
-signedAt line k = signed (hasMinus (wordAt line k)) (valueOf (magnitude Signed (wordAt line k)))
+signedAt line k = signedOf (wordAt line k)

@@ -6,10 +6,9 @@ use Prim.Native.Nat.{ℕ, _+_, _*_, _≤_}
 use lib.Dec.{leb, eqb}
 use lib.ListN.{length, drop}
 use Rattle.words.specs.Words.{words, wordAt, IsAt}
-use Rattle.words.specs.Numbers.{digitOf}
+use Rattle.words.specs.Numbers.{digitOf, said, unsaid}
 use Rattle.words.specs.declared.Word.{Word}
-use Rattle.words.specs.declared.Digits.{Digits}
-use Rattle.words.specs.declared.Digits.the-variants.{Said, Unsaid}
+use Rattle.words.specs.declared.Number.{Number}
 
 -- the bytes in front that are spaces, or that are none
 abbrev pub run : Bool → List ℕ → List ℕ
@@ -34,10 +33,10 @@ pub record Ready (base limit : ℕ) : Type 0 where
   pub room : 16 ≤ limit
 
 -- one digit more
-abbrev pub extended : ℕ → ℕ → ℕ → ℕ → Digits
+abbrev pub extended : ℕ → ℕ → ℕ → ℕ → Number
 extended base limit value digit =
-    cond (leb base digit) Unsaid (cond (leb (value * base + digit) limit) (Said (value * base + digit)) Unsaid)
+    cond (leb base digit) unsaid (cond (leb (value * base + digit) limit) (said (value * base + digit)) unsaid)
 
-abbrev pub withByte : ℕ → ℕ → Digits → ℕ → Digits
-withByte base limit Unsaid b = Unsaid
-withByte base limit (Said value) b = extended base limit value (digitOf b)
+-- one byte more
+abbrev pub withByte : ℕ → ℕ → Number → ℕ → Number
+withByte base limit past b = cond (past .said) (extended base limit (past .value) (digitOf b)) past

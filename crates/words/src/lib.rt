@@ -2,16 +2,22 @@
 ghost use mathlib.Core.Path.{_≡_};
 ghost use mathlib.Core.Bool.{cond};
 ghost use Prim.Native.Nat.{_+_, _-_, _≤_};
+ghost use lib.Dec.{ltb};
 ghost use lib.ListN.{length, drop};
 ghost use lib.Seq.{slice};
 ghost use Rattle.words.specs.Words.{words, wordAt, same, IsAt};
-ghost use Rattle.words.specs.Numbers.{digitOf, digits, magnitude, signless, isSaid, valueOf, hasMinus, isNumber, naturalAt, bitsAt, signedAt, signed, least};
+ghost use Rattle.words.specs.Numbers.{digitOf, digits, signless, hasMinus, isNumber, naturalAt, bitsAt, signedAt, signed, signedOf, least, largest};
 ghost use Rattle.words.specs.Steps.{run, First, Passed, Ready, extended, withByte};
 
 // The largest number of 64 bits, and the distance of the least signed one from 0.
 const LARGEST: u64 = 18446744073709551615;
 
 const LEAST: u64 = 9223372036854775808;
+
+const UNSAID: Number = Number {
+    said: false,
+    value: 0,
+};
 
 // Where a word stands: from its start up to its end.
 pub struct Word {
@@ -26,17 +32,16 @@ pub enum Kind {
     Bits,
 }
 
-// The number that digits say, or that they say none.
-pub enum Digits {
-    Said(u64),
-    Unsaid,
+// The number that a word says, where it says one.
+pub struct Number {
+    pub said: bool,
+    pub value: u64,
 }
 
 // The place behind the bytes from a place on that are spaces, or that are none.
-fn run_end(line: &[u8], from: usize, space: bool) -> usize
-    ensures { λ r. ⌜ r ≡ from + length (run space (drop from (now (line .entry)))) ⌝ }
+fn run_end(line: &[u8], mut at: usize, space: bool) -> usize
+    ensures { λ r. ⌜ r ≡ at + length (run space (drop at (now (line .entry)))) ⌝ }
 {
-    let mut at = from;
     while at < line.len() {
         if (line[at] == b' ') != space {
             return at;
@@ -57,15 +62,13 @@ fn first_word(line: &[u8], from: usize) -> Word
 }
 
 // The place behind the first `count` words.
-fn behind_words(line: &[u8], count: usize) -> usize
+fn behind_words(line: &[u8], mut count: usize) -> usize
     ensures { λ r. ⌜ Passed (now (line .entry)) count r ⌝ }
 {
     let mut at: usize = 0;
-    let mut passed: usize = 0;
-    while passed < count {
-        let word = first_word(line, at);
-        at = word.end;
-        passed += 1;
+    while count > 0 {
+        at = first_word(line, at).end;
+        count -= 1;
     }
     at
 }
@@ -78,40 +81,30 @@ pub fn word_at(line: &[u8], k: usize) -> Word
     first_word(line, from)
 }
 
-// How many words there are.
-pub fn word_count(line: &[u8]) -> usize
-    ensures { λ r. ⌜ r ≡ length (words (now (line .entry))) ⌝ }
+// Whether there are more words than so many.
+pub fn has_word(line: &[u8], k: usize) -> bool
+    ensures { λ r. ⌜ r ≡ ltb k (length (words (now (line .entry)))) ⌝ }
 {
-    let mut count: usize = 0;
-    let mut at: usize = 0;
-    loop {
-        let word = first_word(line, at);
-        at = word.end;
-        if word.start >= at {
-            return count;
-        }
-        count += 1;
-    }
+    let word = word_at(line, k);
+    word.start < word.end
 }
 
 // Whether a part of one line is a part of another, byte for byte.
-fn same_part(a: &[u8], from: usize, end: usize, b: &[u8], start: usize, stop: usize) -> bool
+fn same_part(a: &[u8], mut i: usize, end: usize, b: &[u8], mut k: usize, stop: usize) -> bool
     requires { ⌜ (end ≤ length (now a)) × (stop ≤ length (now b)) ⌝ }
-    ensures { λ r. ⌜ r ≡ same (slice from end (now (a .entry))) (slice start stop (now (b .entry))) ⌝ }
+    ensures { λ r. ⌜ r ≡ same (slice i end (now (a .entry))) (slice k stop (now (b .entry))) ⌝ }
 {
-    let mut i = from;
-    let mut j = start;
     while i < end {
-        if j >= stop {
+        if k >= stop {
             return false;
         }
-        if a[i] != b[j] {
+        if a[i] != b[k] {
             return false;
         }
         i += 1;
-        j += 1;
+        k += 1;
     }
-    j >= stop
+    k >= stop
 }
 
 // Whether a word of one line is a word of another, byte for byte.
@@ -124,59 +117,64 @@ pub fn same_word(a: &[u8], i: usize, b: &[u8], k: usize) -> bool
 }
 
 // What a byte is worth as a digit: 16 where it is none.
-fn digit_of(byte: u8) -> u64
+fn digit_of(byte: u8) -> u8
     ensures { λ r. ⌜ r ≡ digitOf byte ⌝ }
 {
     if byte < b'0' {
         return 16;
     }
     if byte <= b'9' {
-        return (byte - b'0') as u64;
+        return byte - b'0';
     }
     if byte < b'a' {
         return 16;
     }
     if byte <= b'f' {
-        return (byte - b'a') as u64 + 10;
+        return byte - 87;
     }
     16
 }
 
 // One digit more. The second test asks whether the limit is passed, without passing it.
-fn extended(value: u64, digit: u64, base: u64, limit: u64) -> Digits
+fn extended(value: u64, digit: u64, base: u64, limit: u64) -> Number
     requires { ⌜ Ready base limit ⌝ }
     ensures { λ r. ⌜ r ≡ extended base limit value digit ⌝ }
 {
     if digit >= base {
-        return Digits::Unsaid;
+        return UNSAID;
     }
     if value > (limit - digit) / base {
-        return Digits::Unsaid;
+        return UNSAID;
     }
-    Digits::Said(value * base + digit)
+    Number {
+        said: true,
+        value: value * base + digit,
+    }
 }
 
 // One byte more.
-fn with_byte(past: Digits, byte: u8, base: u64, limit: u64) -> Digits
+fn with_byte(past: Number, byte: u8, base: u64, limit: u64) -> Number
     requires { ⌜ Ready base limit ⌝ }
     ensures { λ r. ⌜ r ≡ withByte base limit past byte ⌝ }
 {
-    match past {
-        Digits::Said(value) => extended(value, digit_of(byte), base, limit),
-        Digits::Unsaid => Digits::Unsaid,
+    if past.said {
+        return extended(past.value, digit_of(byte) as u64, base, limit);
     }
+    past
 }
 
 // The number that a part of a line says by its digits.
-fn digits_in(line: &[u8], start: usize, end: usize, base: u64, limit: u64) -> Digits
+fn digits_in(line: &[u8], mut at: usize, end: usize, base: u64, limit: u64) -> Number
     requires { ⌜ (end ≤ length (now line)) × Ready base limit ⌝ }
-    ensures { λ r. ⌜ r ≡ digits base limit (slice start end (now (line .entry))) ⌝ }
+    ensures { λ r. ⌜ r ≡ digits base limit (slice at end (now (line .entry))) ⌝ }
 {
-    if start >= end {
-        return Digits::Unsaid;
+    if at >= end {
+        return UNSAID;
     }
-    let mut past = Digits::Said(0);
-    let mut at = start;
+    let mut past = Number {
+        said: true,
+        value: 0,
+    };
     while at < end {
         past = with_byte(past, line[at], base, limit);
         at += 1;
@@ -196,7 +194,7 @@ fn minus_in(line: &[u8], start: usize, end: usize) -> bool
 }
 
 // The number that a part of a line says behind its minus, where it has one.
-fn signless_in(line: &[u8], start: usize, end: usize) -> Digits
+fn signless_in(line: &[u8], start: usize, end: usize) -> Number
     requires { ⌜ end ≤ length (now line) ⌝ }
     ensures { λ r. ⌜ r ≡ signless (slice start end (now (line .entry))) ⌝ }
 {
@@ -206,54 +204,44 @@ fn signless_in(line: &[u8], start: usize, end: usize) -> Digits
     digits_in(line, start, end, 10, LEAST - 1)
 }
 
-// The number that a word says, without its sign.
-fn magnitude_at(line: &[u8], k: usize, kind: Kind) -> Digits
-    ensures { λ r. ⌜ r ≡ magnitude kind (wordAt (now (line .entry)) k) ⌝ }
+// The number that a word says by digits of a base.
+fn digits_at(line: &[u8], k: usize, base: u64) -> Number
+    requires { ⌜ Ready base largest ⌝ }
+    ensures { λ r. ⌜ r ≡ digits base largest (wordAt (now (line .entry)) k) ⌝ }
 {
     let word = word_at(line, k);
-    match kind {
-        Kind::Natural => digits_in(line, word.start, word.end, 10, LARGEST),
-        Kind::Signed => signless_in(line, word.start, word.end),
-        Kind::Bits => digits_in(line, word.start, word.end, 16, LARGEST),
-    }
+    digits_in(line, word.start, word.end, base, LARGEST)
 }
 
-fn is_said(digits: Digits) -> bool
-    ensures { λ r. ⌜ r ≡ isSaid digits ⌝ }
+fn signless_at(line: &[u8], k: usize) -> Number
+    ensures { λ r. ⌜ r ≡ signless (wordAt (now (line .entry)) k) ⌝ }
 {
-    match digits {
-        Digits::Said(_) => true,
-        Digits::Unsaid => false,
-    }
-}
-
-fn value_of(digits: Digits) -> u64
-    ensures { λ r. ⌜ r ≡ valueOf digits ⌝ }
-{
-    match digits {
-        Digits::Said(value) => value,
-        Digits::Unsaid => 0,
-    }
+    let word = word_at(line, k);
+    signless_in(line, word.start, word.end)
 }
 
 // Whether a word says a number of a kind.
 pub fn is_number(line: &[u8], k: usize, kind: Kind) -> bool
     ensures { λ r. ⌜ r ≡ isNumber (now (line .entry)) k kind ⌝ }
 {
-    is_said(magnitude_at(line, k, kind))
+    match kind {
+        Kind::Natural => digits_at(line, k, 10).said,
+        Kind::Signed => signless_at(line, k).said,
+        Kind::Bits => digits_at(line, k, 16).said,
+    }
 }
 
 // The number of a word; 0 where it says none of its kind.
 pub fn natural_at(line: &[u8], k: usize) -> u64
     ensures { λ r. ⌜ r ≡ naturalAt (now (line .entry)) k ⌝ }
 {
-    value_of(magnitude_at(line, k, Kind::Natural))
+    digits_at(line, k, 10).value
 }
 
 pub fn bits_at(line: &[u8], k: usize) -> u64
     ensures { λ r. ⌜ r ≡ bitsAt (now (line .entry)) k ⌝ }
 {
-    value_of(magnitude_at(line, k, Kind::Bits))
+    digits_at(line, k, 16).value
 }
 
 // A magnitude with its sign. The least number has no magnitude that is a signed number of 64 bits.
@@ -270,10 +258,20 @@ fn signed(negative: bool, value: u64) -> i64
     value as i64
 }
 
+// The signed number that a part of a line says.
+fn signed_in(line: &[u8], start: usize, end: usize) -> i64
+    requires { ⌜ end ≤ length (now line) ⌝ }
+    ensures { λ r. ⌜ r ≡ signedOf (slice start end (now (line .entry))) ⌝ }
+{
+    signed(
+        minus_in(line, start, end),
+        signless_in(line, start, end).value,
+    )
+}
+
 pub fn signed_at(line: &[u8], k: usize) -> i64
     ensures { λ r. ⌜ r ≡ signedAt (now (line .entry)) k ⌝ }
 {
     let word = word_at(line, k);
-    let negative = minus_in(line, word.start, word.end);
-    signed(negative, value_of(magnitude_at(line, k, Kind::Signed)))
+    signed_in(line, word.start, word.end)
 }

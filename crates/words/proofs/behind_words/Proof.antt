@@ -1,30 +1,29 @@
--- `words::behind_words` meets its contract. The loop's invariant: the words passed are so many.
+-- `words::behind_words` meets its contract. The loop's invariant: behind as many words more as are left to pass stand those behind all.
 -- Assumes nothing.
-use mathlib.Core.Path.{_≡_, refl, ap, _∙_, subst}
-use Prim.Native.Nat.{_-_, _≤_}
+use mathlib.Core.Path.{_≡_, refl, ap, _∙_}
+use Prim.Native.Nat.{_+_, _-_, _≤_}
 use native.Mathlib.Omega.{arith}
 use borrow.Author.Needs.{needs}
 use lib.ListN.{length, drop}
 use lib.Seq.{drop-drop}
 use Rattle.words.specs.Words.{words}
-use Rattle.words.specs.Steps.{Passed}
 use Rattle.words.proofs.behind_words.Statement.{statement}
 use Rattle.words.proofs.behind_words.Tie as tie
 
 abbrev Inv-loop : tie.InvT-loop
-Inv-loop line count at₀ passed₀ at passed = (passed ≤ count) × Passed line passed at
+Inv-loop line count₀ at₀ count at = (at ≤ length line) × (drop count (words (drop at line)) ≡ drop count₀ (words line))
 
 abbrev μ-loop : tie.MeasureT-loop
-μ-loop line count at₀ passed₀ at passed = count - passed
+μ-loop line count₀ at₀ count at = count
 
 loop-holds : tie.Need-loop-holds Inv-loop μ-loop
-loop-holds c = (omega arith, record { within = omega arith; later = refl })
+loop-holds c = (omega arith, refl)
 
 first-word-requires : tie.Need-first-word-requires Inv-loop μ-loop
 first-word-requires c κs = search needs
 
-add-passed : tie.Need-add-passed Inv-loop μ-loop
-add-passed c = search needs
+sub-count : tie.Need-sub-count Inv-loop μ-loop
+sub-count c = search needs
 
 loop-less : tie.Need-loop-less Inv-loop μ-loop
 loop-less c = search needs
@@ -33,15 +32,18 @@ loop-again : tie.Need-loop-again Inv-loop μ-loop
 loop-again c =
     let l = c .before .before in
     let line = l .before .before .args .line .now in
+    let n = l .loop .count in
+    let ws = words (drop (l .loop .at) line) in
     let first = c .first-word .ensures in
-    let later = first .later ∙ ap (drop 1) (l .loop .inv .1 .later) ∙ drop-drop 1 (l .loop .passed) (words line) in
-    (omega arith, record { within = first .at .within; later = later })
+    let one : 1 + (n - 1) ≡ n = omega arith in
+    (first .at .within, ap (drop (n - 1)) (first .later) ∙ drop-drop (n - 1) 1 ws ∙ ap (λ m. drop m ws) one ∙ l .loop .inv .1)
 
 returns : tie.Need-returns Inv-loop μ-loop
 returns c =
     let l = c .before in
-    let all : l .loop .passed ≡ l .before .before .args .count = omega (arith, l .loop .inv .0, c .loop-test .left) in
-    subst (λ n. Passed (l .before .before .args .line .now) n (l .loop .at)) all (l .loop .inv .1)
+    let ws = words (drop (l .loop .at) (l .before .before .args .line .now)) in
+    let none : 0 ≡ l .loop .count = omega arith in
+    record { within = l .loop .inv .0; later = ap (λ m. drop m ws) none ∙ l .loop .inv .1 }
 
 pub behind-words-spec : {M : Type 1} → statement M
 behind-words-spec =
@@ -51,7 +53,7 @@ behind-words-spec =
     μ-loop
     loop-holds
     first-word-requires
-    add-passed
+    sub-count
     loop-less
     loop-again
     returns)

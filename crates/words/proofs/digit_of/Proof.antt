@@ -8,20 +8,14 @@ use Rattle.words.proofs.digit_of.Tie as tie
 returns : tie.Need-returns
 returns c = simp (lt-ltb _ _ (c .if1 .taken))
 
-cast-result : tie.Need-cast-result
-cast-result c = search needs
-
 returns-2 : tie.Need-returns-2
 returns-2 c = simp (le-ltb _ _ (c .before .if1 .left), le-leb _ _ (c .if2 .taken))
 
 returns-3 : tie.Need-returns-3
 returns-3 c = simp (le-ltb _ _ (c .before .before .if1 .left), lt-leb _ _ (c .before .if2 .left), lt-ltb _ _ (c .if3 .taken))
 
-cast-result-2 : tie.Need-cast-result-2
-cast-result-2 c = search needs
-
-add-result : tie.Need-add-result
-add-result c = search needs
+sub-result : tie.Need-sub-result
+sub-result c = search needs
 
 returns-4 : tie.Need-returns-4
 returns-4 c =
@@ -34,4 +28,4 @@ returns-5 c =
 pub digit-of-spec : {M : Type 1} → statement M
 digit-of-spec =
     tie.close
-    (tie.spec returns cast-result returns-2 returns-3 cast-result-2 add-result returns-4 returns-5)
+    (tie.spec returns returns-2 returns-3 sub-result returns-4 returns-5)

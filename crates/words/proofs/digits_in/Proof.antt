@@ -14,22 +14,22 @@ use Rattle.words.proofs.digits_in.Statement.{statement}
 use Rattle.words.proofs.digits_in.Tie as tie
 
 abbrev Inv-loop : tie.InvT-loop
-Inv-loop line start end base limit past₀ at₀ past at = readOn base limit past (slice at end line) ≡ digits base limit (slice start end line)
+Inv-loop line at₀ end base limit past₀ at past = readOn base limit past (slice at end line) ≡ digits base limit (slice at₀ end line)
 
 abbrev μ-loop : tie.MeasureT-loop
-μ-loop line start end base limit past₀ at₀ past at = end - at
+μ-loop line at₀ end base limit past₀ at past = end - at
 
 returns : tie.Need-returns Inv-loop μ-loop
 returns c =
     let s = c .before .before in
     let a = s .args in
-    sym (ap (digits (a .base) (a .limit)) (slice-none (a .start) (a .end) (a .line .now) (c .if1 .taken) (s .pre .0)))
+    sym (ap (digits (a .base) (a .limit)) (slice-none (a .at) (a .end) (a .line .now) (c .if1 .taken) (s .pre .0)))
 
 loop-holds : tie.Need-loop-holds Inv-loop μ-loop
 loop-holds c =
     let s = c .before .before in
     let a = s .args in
-    read-digits (a .base) (a .limit) (s .pre .1 .some) (slice (a .start) (a .end) (a .line .now)) (omega (arith, length-slice (a .start) (a .end) (a .line .now) (s .pre .0), c .if1 .left))
+    read-digits (a .base) (a .limit) (s .pre .1 .some) (slice (a .at) (a .end) (a .line .now)) (omega (arith, length-slice (a .at) (a .end) (a .line .now) (s .pre .0), c .if1 .left))
 
 shared-slice-read-with-byte : tie.Need-shared-slice-read-with-byte Inv-loop μ-loop
 shared-slice-read-with-byte c = search needs

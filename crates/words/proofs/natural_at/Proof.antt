@@ -1,19 +1,16 @@
--- `words::natural_at` meets its contract: it is the definition.
--- Assumes nothing.
-use mathlib.Core.Path.{ap, _∙_}
+-- `words::natural_at` meets its contract: it is the definition. Assumes nothing.
+use mathlib.Core.Path.{ap}
 use borrow.Author.Needs.{needs}
-use Rattle.words.specs.Numbers.{valueOf}
+use Rattle.words.specs.Numbers.{magnitude}
 use Rattle.words.proofs.natural_at.Statement.{statement}
 use Rattle.words.proofs.natural_at.Tie as tie
 
-magnitude-at-requires : tie.Need-magnitude-at-requires
-magnitude-at-requires c κs = search needs
-
-value-of-requires : tie.Need-value-of-requires
-value-of-requires c κs = search needs
+digits-at-requires : tie.Need-digits-at-requires
+digits-at-requires c κs = search needs
 
 returns : tie.Need-returns
-returns c = c .value-of .ensures ∙ ap valueOf (c .before .magnitude-at .ensures)
+unfolding magnitude
+returns c = ap (λ n. n .value) (c .digits-at .ensures)
 
 pub natural-at-spec : {M : Type 1} → statement M
-natural-at-spec = tie.close (tie.spec magnitude-at-requires value-of-requires returns)
+natural-at-spec = tie.close (tie.spec digits-at-requires returns)

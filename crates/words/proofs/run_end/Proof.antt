@@ -16,10 +16,10 @@ use Rattle.words.proofs.run_end.Statement.{statement}
 use Rattle.words.proofs.run_end.Tie as tie
 
 abbrev Inv-loop : tie.InvT-loop
-Inv-loop line from space at₀ at = at + length (run space (drop at line)) ≡ from + length (run space (drop from line))
+Inv-loop line at₀ space at = at + length (run space (drop at line)) ≡ at₀ + length (run space (drop at₀ line))
 
 abbrev μ-loop : tie.MeasureT-loop
-μ-loop line from space at₀ at = length line - at
+μ-loop line at₀ space at = length line - at
 
 loop-holds : tie.Need-loop-holds Inv-loop μ-loop
 loop-holds c = refl

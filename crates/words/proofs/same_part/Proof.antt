@@ -15,10 +15,10 @@ use Rattle.words.proofs.same_part.Statement.{statement}
 use Rattle.words.proofs.same_part.Tie as tie
 
 abbrev Inv-loop : tie.InvT-loop
-Inv-loop a from end b start stop i₀ j₀ i j = same (slice i end a) (slice j stop b) ≡ same (slice from end a) (slice start stop b)
+Inv-loop a i₀ end b k₀ stop i k = same (slice i end a) (slice k stop b) ≡ same (slice i₀ end a) (slice k₀ stop b)
 
 abbrev μ-loop : tie.MeasureT-loop
-μ-loop a from end b start stop i₀ j₀ i j = end - i
+μ-loop a i₀ end b k₀ stop i k = end - i
 
 loop-holds : tie.Need-loop-holds Inv-loop μ-loop
 loop-holds c = refl
@@ -27,7 +27,7 @@ returns : tie.Need-returns Inv-loop μ-loop
 returns c =
     let l = c .before .before in
     let s = l .before .args in
-    sym (ap₂ same (slice-more (l .loop .i) (s .end) (s .a .now) (c .before .loop-test .taken) (l .before .pre .0)) (slice-none (l .loop .j) (s .stop) (s .b .now) (c .if1 .taken) (l .before .pre .1)))
+    sym (ap₂ same (slice-more (l .loop .i) (s .end) (s .a .now) (c .before .loop-test .taken) (l .before .pre .0)) (slice-none (l .loop .k) (s .stop) (s .b .now) (c .if1 .taken) (l .before .pre .1)))
     ∙ l .loop .inv
 
 shared-slice-read-if2 : tie.Need-shared-slice-read-if2 Inv-loop μ-loop
@@ -48,17 +48,17 @@ module _ (c : tie.Else1 Inv-loop μ-loop) where
   x = getD (start .args .a .now) (at .loop .i) 0
 
   abbrev y : ℕ
-  y = getD (start .args .b .now) (at .loop .j) 0
+  y = getD (start .args .b .now) (at .loop .k) 0
 
   abbrev xs : List ℕ
   xs = slice (at .loop .i + 1) (start .args .end) (start .args .a .now)
 
   abbrev ys : List ℕ
-  ys = slice (at .loop .j + 1) (start .args .stop) (start .args .b .now)
+  ys = slice (at .loop .k + 1) (start .args .stop) (start .args .b .now)
 
-  both : same (x ∷ xs) (y ∷ ys) ≡ same (slice (start .args .from) (start .args .end) (start .args .a .now)) (slice (start .args .start) (start .args .stop) (start .args .b .now))
+  both : same (x ∷ xs) (y ∷ ys) ≡ same (slice (start .args .i) (start .args .end) (start .args .a .now)) (slice (start .args .k) (start .args .stop) (start .args .b .now))
   both =
-      sym (ap₂ same (slice-more (at .loop .i) (start .args .end) (start .args .a .now) (c .before .loop-test .taken) (start .pre .0)) (slice-more (at .loop .j) (start .args .stop) (start .args .b .now) (c .if1 .left) (start .pre .1)))
+      sym (ap₂ same (slice-more (at .loop .i) (start .args .end) (start .args .a .now) (c .before .loop-test .taken) (start .pre .0)) (slice-more (at .loop .k) (start .args .stop) (start .args .b .now) (c .if1 .left) (start .pre .1)))
       ∙ at .loop .inv
 
 returns-2 : tie.Need-returns-2 Inv-loop μ-loop
@@ -69,8 +69,8 @@ returns-2 c =
 add-i : tie.Need-add-i Inv-loop μ-loop
 add-i c = search needs
 
-add-j : tie.Need-add-j Inv-loop μ-loop
-add-j c = search needs
+add-k : tie.Need-add-k Inv-loop μ-loop
+add-k c = search needs
 
 loop-less : tie.Need-loop-less Inv-loop μ-loop
 loop-less c = search needs
@@ -85,8 +85,8 @@ returns-3 c =
     let s = c .before .before in
     let a = s .args in
     let l = c .before .loop in
-    same-none (l .j) (a .stop) (a .b .now) (s .pre .1)
-    ∙ sym (ap (λ xs. same xs (slice (l .j) (a .stop) (a .b .now))) (slice-none (l .i) (a .end) (a .a .now) (c .loop-test .left) (s .pre .0)))
+    same-none (l .k) (a .stop) (a .b .now) (s .pre .1)
+    ∙ sym (ap (λ xs. same xs (slice (l .k) (a .stop) (a .b .now))) (slice-none (l .i) (a .end) (a .a .now) (c .loop-test .left) (s .pre .0)))
     ∙ l .inv
 
 pub same-part-spec : {M : Type 1} → statement M
@@ -101,7 +101,7 @@ same-part-spec =
     shared-slice-read-if2-2
     returns-2
     add-i
-    add-j
+    add-k
     loop-less
     loop-again
     returns-3)
