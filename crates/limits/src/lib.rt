@@ -7,12 +7,12 @@ ghost use mathlib.Core.Path.{_≡_};
 ghost use mathlib.Core.Bool.{true, not, _&&_};
 ghost use Prim.Native.Nat.{_≤_, _<_, max};
 ghost use lib.IntN.{pos, natAbs};
-ghost use lib.ListN.{length, take};
+ghost use lib.ListN.{length, take, getD};
 ghost use lib.Signed.{leZ, ltZ};
 ghost use Rattle.polynomials.specs.Sum.{listed};
 ghost use Rattle.polynomials.specs.Limits.{farthest};
-ghost use Rattle.layout.specs.Shape.{cumulus, limitsLength, lowestPlace, highestPlace};
-ghost use Rattle.layout.specs.Limits.{lowest, highest, cut, longestShift, inRange, allInRange, inOrder, good};
+ghost use Rattle.layout.specs.Shape.{cumulus, limitsLength};
+ghost use Rattle.layout.specs.Limits.{lowest, highest, cut, longestShift, allInRange, inOrder, good};
 ghost use Rattle.layout.specs.Blocks.{piece as pieceOf};
 ghost use Rattle.layout.specs.Sound.{span, reach};
 ghost use Rattle.layout.specs.Refusals.{outside, first, _when_};
@@ -22,8 +22,8 @@ ghost use Rattle.layout.specs.Moving.{owner, movedLimit, movedLimits};
 // The greatest limit that is in range.
 pub const MOST: i64 = 2000;
 
-// And the least.
-const LEAST: i64 = -MOST;
+// And the greatest magnitude.
+const FARTHEST: u64 = MOST as u64;
 
 // The cut of variable 0 stands between its lowest and its highest reading.
 const CUT: usize = 1;
@@ -31,25 +31,6 @@ const CUT: usize = 1;
 // The limits of the readings, as the table has them.
 pub struct Limits {
     pub numbers: [i64; LIMITS],
-}
-
-// Where the lowest reading of a variable stands.
-fn lowest_place(variable: usize) -> usize
-    requires { ⌜ variable < cumulus .variables ⌝ }
-    ensures { λ r. ⌜ r ≡ lowestPlace variable ⌝ }
-{
-    if variable > 0 {
-        return 2 * variable + 1;
-    }
-    0
-}
-
-// Where the highest reading of a variable stands.
-fn highest_place(variable: usize) -> usize
-    requires { ⌜ variable < cumulus .variables ⌝ }
-    ensures { λ r. ⌜ r ≡ highestPlace variable ⌝ }
-{
-    2 * variable + 2
 }
 
 // The variable that the limit at a place belongs to: up to the cut variable 0, then two places for each.
@@ -60,16 +41,6 @@ fn owner(place: usize) -> usize
         return 0;
     }
     (place - 1) / 2
-}
-
-// Whether one limit lies in -2000..2000.
-fn in_range_one(limit: i64) -> bool
-    ensures { λ r. ⌜ r ≡ inRange limit ⌝ }
-{
-    if LEAST <= limit {
-        return limit <= MOST;
-    }
-    false
 }
 
 // The larger of two magnitudes.
@@ -108,14 +79,24 @@ impl Limits {
         Limits { numbers: numbers }
     }
 
+    // The limit at a place.
+    fn at(self, place: usize) -> i64
+        requires { ⌜ place < limitsLength cumulus ⌝ }
+        ensures { λ r. ⌜ r ≡ getD (self .numbers) place (pos 0) ⌝ }
+    {
+        let numbers = self.numbers;
+        numbers[place]
+    }
+
     // The lowest reading of a variable.
     pub fn lowest(self, variable: usize) -> i64
         requires { ⌜ variable < cumulus .variables ⌝ }
         ensures { λ r. ⌜ r ≡ lowest (self .numbers) variable ⌝ }
     {
-        let numbers = self.numbers;
-        let place = lowest_place(variable);
-        numbers[place]
+        if variable > 0 {
+            return self.at(2 * variable + 1);
+        }
+        self.at(0)
     }
 
     // The highest reading of a variable.
@@ -123,19 +104,16 @@ impl Limits {
         requires { ⌜ variable < cumulus .variables ⌝ }
         ensures { λ r. ⌜ r ≡ highest (self .numbers) variable ⌝ }
     {
-        let numbers = self.numbers;
-        let place = highest_place(variable);
-        numbers[place]
+        self.at(2 * variable + 2)
     }
 
     // Whether each limit lies in -2000..2000.
     pub fn in_range(self) -> bool
         ensures { λ r. ⌜ r ≡ allInRange cumulus (self .numbers) ⌝ }
     {
-        let numbers = self.numbers;
         let mut k: usize = 0;
         while k < LIMITS {
-            if !in_range_one(numbers[k]) {
+            if whole::magnitude(self.at(k)) > FARTHEST {
                 return false;
             }
             k += 1;
@@ -155,8 +133,7 @@ impl Limits {
     fn cut_in_order(self) -> bool
         ensures { λ r. ⌜ r ≡ (leZ (lowest (self .numbers) 0) (cut (self .numbers)) && ltZ (cut (self .numbers)) (highest (self .numbers) 0)) ⌝ }
     {
-        let numbers = self.numbers;
-        let cut = numbers[CUT];
+        let cut = self.at(CUT);
         if self.lowest(0) <= cut {
             return cut < self.highest(0);
         }
@@ -188,8 +165,7 @@ impl Limits {
         requires { ⌜ (allInRange cumulus (self .numbers) ≡ true) × ((natAbs shift ≤ longestShift) × (place < limitsLength cumulus)) ⌝ }
         ensures { λ r. ⌜ r ≡ movedLimit variable shift (self .numbers) place ⌝ }
     {
-        let numbers = self.numbers;
-        let number = numbers[place];
+        let number = self.at(place);
         if owner(place) == variable {
             return number - shift;
         }
@@ -216,9 +192,8 @@ impl Limits {
         requires { ⌜ (allInRange cumulus (self .numbers) ≡ true) × (variable < cumulus .variables) ⌝ }
         ensures { λ r. ⌜ r ≡ pos (reach (self .numbers) (pieceOf piece) variable) ⌝ }
     {
-        let numbers = self.numbers;
-        let cut = numbers[CUT];
         if variable == 0 {
+            let cut = self.at(CUT);
             if piece == 0 {
                 return span(self.lowest(0), cut);
             }
@@ -272,7 +247,6 @@ impl Limits {
     pub fn in_low_piece(self, x: i64) -> bool
         ensures { λ r. ⌜ r ≡ leZ x (cut (self .numbers)) ⌝ }
     {
-        let numbers = self.numbers;
-        x <= numbers[CUT]
+        x <= self.at(CUT)
     }
 }
