@@ -134,30 +134,16 @@ impl Limits {
         ensures { λ r. ⌜ r ≡ (leZ (lowest (self .numbers) 0) (cut (self .numbers)) && ltZ (cut (self .numbers)) (highest (self .numbers) 0)) ⌝ }
     {
         let cut = self.at(CUT);
-        if self.lowest(0) <= cut {
-            return cut < self.highest(0);
-        }
-        false
+        (self.lowest(0) <= cut) & (cut < self.highest(0))
     }
 
     // Whether every limit is in range, and the limits of every variable are in order.
     pub fn good(self) -> bool
         ensures { λ r. ⌜ r ≡ good cumulus (self .numbers) ⌝ }
     {
-        if !self.in_range() {
-            return false;
-        }
-        if !self.cut_in_order() {
-            return false;
-        }
-        let mut others: usize = 0;
-        while others < VARIABLES - 1 {
-            if !self.in_order(others + 1) {
-                return false;
-            }
-            others += 1;
-        }
-        true
+        self.in_range()
+            & self.cut_in_order()
+            & (self.in_order(1) & self.in_order(2) & self.in_order(3) & self.in_order(4))
     }
 
     // The limit at a place once the datum of a variable is moved.
@@ -207,14 +193,13 @@ impl Limits {
         requires { ⌜ allInRange cumulus (self .numbers) ≡ true ⌝ }
         ensures { λ r. ⌜ r ≡ listed (cumulus .variables) (λ i. pos (reach (self .numbers) (pieceOf piece) i)) ⌝ }
     {
-        let mut reaches: [i64; VARIABLES] = [0; VARIABLES];
-        let mut i: usize = 0;
-        while i < VARIABLES {
-            let reach = self.reach(piece, i);
-            reaches[i] = reach;
-            i += 1;
-        }
-        reaches
+        [
+            self.reach(piece, 0),
+            self.reach(piece, 1),
+            self.reach(piece, 2),
+            self.reach(piece, 3),
+            self.reach(piece, 4),
+        ]
     }
 
     // Whether a reading lies within the limits of a variable, ends included.
@@ -222,10 +207,7 @@ impl Limits {
         requires { ⌜ variable < cumulus .variables ⌝ }
         ensures { λ r. ⌜ r ≡ (leZ (lowest (self .numbers) variable) x && leZ x (highest (self .numbers) variable)) ⌝ }
     {
-        if self.lowest(variable) <= x {
-            return x <= self.highest(variable);
-        }
-        false
+        (self.lowest(variable) <= x) & (x <= self.highest(variable))
     }
 
     // The refusal of the first reading outside its limits; 0 where all are inside.
