@@ -119,12 +119,13 @@ fn multiplied_row(s: i64, k: usize) -> [i64; 5]
     requires { ⌜ (natAbs s ≤ farthest) × (k ≤ highestDegree) ⌝ }
     ensures { λ r. ⌜ r ≡ listed 5 (multipliedOut ints s k) ⌝ }
 {
-    let powers = powers_of(s);
     let mut row = BINOMIALS[k];
-    let mut p: usize = 0;
-    while p < k {
-        row[p] = row[p] * powers[k - p];
-        p += 1;
+    let mut power: i64 = 1;
+    let mut p = k;
+    while p > 0 {
+        p -= 1;
+        power *= s;
+        row[p] *= power;
     }
     row
 }
