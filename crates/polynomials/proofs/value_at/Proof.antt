@@ -1,12 +1,12 @@
 -- `polynomials::value_at` meets its contract. The loop's invariant: `w` are the powers at the place `at`, and the sum is that of the terms before it.
 -- The weight bounds each product and each sum. Assumes nothing.
-use mathlib.Core.Path.{_≡_, sym, _∙_, ap, ap₂, subst}
+use mathlib.Core.Path.{_≡_, refl, sym, _∙_, ap, ap₂, subst}
 use mathlib.Core.List.{List}
 use Prim.Native.Nat.{ℕ, _+_, _-_, _≤_, _<_, max}
 use native.Mathlib.Nat as N
 use native.Mathlib.Numerals.{add-one}
 use native.Mathlib.Omega.{arith}
-use borrow.Author.Needs.{needs, sfits-of}
+use borrow.Author.Needs.{sfits-of}
 use lib.IntN.{ℤ, pos, natAbs, pow, _+ℤ_, _*ℤ_}
 use lib.ListN.{length, getD}
 use mir.Syntax.{w64}
@@ -132,13 +132,13 @@ powers-of-requires-2 c κs = rw (toZ-ofZ (c .before .fits .y)) (c .before .pre .
 
 loop-holds : tie.Need-loop-holds Inv-loop μ-loop
 unfolding powers total
-loop-holds c = search needs
+loop-holds c = (omega arith, refl, refl)
 
 mul-sum : tie.Need-mul-sum Inv-loop μ-loop
-mul-sum c = search needs
+mul-sum c = omega arith
 
 shared-slice-copy-out-sum : tie.Need-shared-slice-copy-out-sum Inv-loop μ-loop
-shared-slice-copy-out-sum c = search needs
+shared-slice-copy-out-sum c = c .loop-test .taken
 
 mul-sum-2 : tie.Need-mul-sum-2 Inv-loop μ-loop
 mul-sum-2 c = omega (arith, low (c .before))
@@ -169,10 +169,10 @@ next-requires : tie.Need-next-requires Inv-loop μ-loop
 next-requires c κs = omega (arith, low (c .before .before .before))
 
 add-at : tie.Need-add-at Inv-loop μ-loop
-add-at c = search needs
+add-at c = omega (arith, there (c .before) .loop-test .taken)
 
 loop-less : tie.Need-loop-less Inv-loop μ-loop
-loop-less c = search needs
+loop-less c = omega (arith, there (c .before) .loop-test .taken)
 
 loop-again : tie.Need-loop-again Inv-loop μ-loop
 unfolding term
