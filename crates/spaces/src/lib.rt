@@ -1,0 +1,81 @@
+// Ten spaces for tables, and what a line of a script does with them. The bytes of an answer are compared with those that the second
+// program works out; proved are the command of a line, and that everything stays within its room.
+mod drawing;
+mod floats;
+mod keeping;
+mod lent;
+mod operations;
+mod reasons;
+mod rooms;
+mod uses;
+
+ghost use Prim.Native.Nat.{_≤_};
+ghost use Rattle.texts.specs.Room.{room};
+use commands::Command;
+use commands::command_of;
+use keeping::keep;
+use operations::operate;
+use reasons::no_line;
+use texts::OUT;
+use texts::put_byte;
+use texts::put_text;
+use uses::put_misused;
+
+// The most bytes of a line.
+pub const LINE: usize = 256;
+
+// The numbers of a space with its length, and those of all spaces.
+pub const SPACE: usize = rooms::SPACE;
+
+pub const ALL: usize = rooms::ALL;
+
+// The most bytes of an answer: the numbers of a space, each with a minus, 19 digits and what parts it from the next.
+pub const LONGEST: usize = rooms::ROOM * 21;
+
+fn obey(line: &[u8], spaces: &mut [i64; ALL], out: &mut [u8; OUT], at: usize) -> usize {
+    let command = command_of(line);
+    match command {
+        Command::Blank => at,
+        Command::Comment => put_text(line, out, at),
+        Command::Misused { name } => put_misused(name, out, at),
+        Command::Operation { operation } => operate(operation, spaces, out, at),
+        Command::Keeping { keeping } => keep(keeping, spaces, out, at),
+    }
+}
+
+// One byte more of a line; of a line that is too long one byte more than it may have is counted.
+pub fn hold(byte: u8, line: &mut [u8; LINE], held: usize) -> usize {
+    if held >= LINE {
+        return LINE + 1;
+    }
+    line[held] = byte;
+    held + 1
+}
+
+fn answered(
+    line: &[u8],
+    held: usize,
+    spaces: &mut [i64; ALL],
+    out: &mut [u8; OUT],
+    at: usize,
+) -> usize {
+    if held > line.len() {
+        return no_line(out, at);
+    }
+    let from = 0;
+    obey(&line[from..held], spaces, out, at)
+}
+
+// Answers a line with a line.
+pub fn answer(
+    line: &[u8; LINE],
+    held: usize,
+    spaces: &mut [i64; ALL],
+    out: &mut [u8; OUT],
+    at: usize,
+) -> usize
+    ensures { λ r. ⌜ r ≤ room ⌝ }
+{
+    let end = answered(line, held, spaces, out, at);
+    put_byte(b'\n', out, end)
+}

@@ -1,0 +1,88 @@
+// The parts of an answer, each written from a place on; each gives the place behind it. What has no room is cut off.
+ghost use Prim.Native.Nat.{_≤_};
+ghost use Rattle.texts.specs.Room.{room};
+
+// The room for answers.
+pub const OUT: usize = 65536;
+
+pub fn least(a: usize, b: usize) -> usize
+    ensures { λ r. ⌜ (r ≤ a) × (r ≤ b) ⌝ }
+{
+    if a < b {
+        return a;
+    }
+    b
+}
+
+pub fn put_text(text: &[u8], out: &mut [u8; OUT], at: usize) -> usize
+    ensures { λ r. ⌜ r ≤ room ⌝ }
+{
+    let start = least(at, OUT);
+    let count = least(text.len(), OUT - start);
+    let mut k: usize = 0;
+    while k < count {
+        out[start + k] = text[k];
+        k += 1;
+    }
+    start + count
+}
+
+pub fn put_byte(byte: u8, out: &mut [u8; OUT], at: usize) -> usize
+    ensures { λ r. ⌜ r ≤ room ⌝ }
+{
+    if at >= OUT {
+        return OUT;
+    }
+    out[at] = byte;
+    at + 1
+}
+
+pub fn put_natural(n: u64, out: &mut [u8; OUT], at: usize) -> usize {
+    let mut digits = [0u8; 20];
+    let count = io::decimal(n, &mut digits);
+    put_text(&digits[..count], out, at)
+}
+
+pub fn put_signed(x: i64, out: &mut [u8; OUT], at: usize) -> usize {
+    let size = whole::magnitude(x);
+    if x < 0 {
+        let next = put_byte(b'-', out, at);
+        return put_natural(size, out, next);
+    }
+    put_natural(size, out, at)
+}
+
+// A space and a natural number.
+pub fn put_word(n: u64, out: &mut [u8; OUT], at: usize) -> usize {
+    let next = put_byte(b' ', out, at);
+    put_natural(n, out, next)
+}
+
+// A space and a bit pattern.
+pub fn put_bits(pattern: u64, out: &mut [u8; OUT], at: usize) -> usize {
+    let mut digits = [0u8; 16];
+    let count = io::hex(pattern, 1, &mut digits);
+    let next = put_byte(b' ', out, at);
+    put_text(&digits[..count], out, next)
+}
+
+// A number, and a space before it where it is not the first.
+fn put_number(x: i64, is_first: bool, out: &mut [u8; OUT], at: usize) -> usize {
+    if is_first {
+        return put_signed(x, out, at);
+    }
+    let next = put_byte(b' ', out, at);
+    put_signed(x, out, next)
+}
+
+// Numbers, parted by spaces.
+pub fn put_numbers(numbers: &[i64], out: &mut [u8; OUT], at: usize) -> usize {
+    let mut end = at;
+    let mut k: usize = 0;
+    while k < numbers.len() {
+        let number = numbers[k];
+        end = put_number(number, k == 0, out, end);
+        k += 1;
+    }
+    end
+}
