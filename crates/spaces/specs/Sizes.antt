@@ -1,4 +1,4 @@
--- The sizes of the spaces: the numbers that one has room for, the numbers of all ten with their lengths, and a lent room with eight numbers on both sides.
+-- The sizes of the spaces: the numbers that one has room for, the numbers of all ten with their lengths, and those on each side of a lent room.
 use Prim.Native.Nat.{ℕ}
 
 abbrev pub room : ℕ
@@ -9,6 +9,3 @@ allSpaces = 3210
 
 abbrev pub margin : ℕ
 margin = 8
-
-abbrev pub lentNumbers : ℕ
-lentNumbers = 336

@@ -22,10 +22,12 @@ fn complement(x: i64) -> u64 {
     size
 }
 
-pub fn checksum(numbers: &[i64]) -> u64 {
+// The checksum of the numbers from one place up to another.
+pub fn checksum(numbers: &[i64], from: usize, end: usize) -> u64 {
+    let stop = least(end, numbers.len());
     let mut sum: u64 = 1;
-    let mut k: usize = 0;
-    while k < numbers.len() {
+    let mut k = from;
+    while k < stop {
         let number = numbers[k];
         sum = wrapping_add_u64(stepped(sum), complement(number));
         k += 1;

@@ -1,6 +1,4 @@
 // What is done with the spaces themselves.
-ghost use Prim.Native.Nat.{_+_, _≤_};
-ghost use lib.ListN.{length as size};
 use super::drawing::checksum;
 use super::drawing::draw;
 use super::reasons::no_place;
@@ -16,10 +14,10 @@ use super::rooms::place_of;
 use super::rooms::start_of;
 use commands::Keeping;
 use texts::OUT;
+use texts::put_named;
 use texts::put_natural;
 use texts::put_numbers;
 use texts::put_text;
-use texts::put_word;
 
 fn done(out: &mut [u8; OUT], at: usize) -> usize {
     put_text(b"ok", out, at)
@@ -83,13 +81,6 @@ fn copy(space: u64, into: u64, spaces: &mut [i64; ALL], out: &mut [u8; OUT], at:
     done(out, at)
 }
 
-fn put_part(start: usize, count: usize, spaces: &[i64], out: &mut [u8; OUT], at: usize) -> usize
-    requires { ⌜ start + count ≤ size (now spaces) ⌝ }
-{
-    let end = start + count;
-    put_numbers(&spaces[start..end], out, at)
-}
-
 fn show(
     space: u64,
     place: u64,
@@ -107,21 +98,16 @@ fn show(
     if many > length - from {
         return no_place(out, at);
     }
-    put_part(start_of(space) + from, many, spaces, out, at)
-}
-
-fn sum_of(start: usize, length: usize, spaces: &[i64]) -> u64
-    requires { ⌜ start + length ≤ size (now spaces) ⌝ }
-{
-    let end = start + length;
-    checksum(&spaces[start..end])
+    let first = start_of(space) + from;
+    put_numbers(spaces, first, first + many, out, at)
 }
 
 fn sum(space: u64, spaces: &[i64; ALL], out: &mut [u8; OUT], at: usize) -> usize {
     let length = length_of(space, spaces);
-    let count = put_natural(length as u64, out, at);
-    let next = put_text(b" sum", out, count);
-    put_word(sum_of(start_of(space), length, spaces), out, next)
+    let start = start_of(space);
+    let sum = checksum(spaces, start, start + length);
+    let next = put_natural(length as u64, out, at);
+    put_named(b" sum ", sum, out, next)
 }
 
 // The space of a command, and of two the larger one.

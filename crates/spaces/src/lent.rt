@@ -1,9 +1,11 @@
 // The room that an operation is lent: filled with a pattern, with more of it on both sides.
-ghost use Prim.Native.Nat.{_≤_};
-ghost use lib.ListN.{length};
-ghost use Rattle.spaces.specs.Sizes.{lentNumbers, room};
-use super::drawing::checksum;
+use super::rooms::ALL;
 use super::rooms::ROOM;
+use super::rooms::start_of;
+use texts::OUT;
+use texts::least;
+use texts::put_natural;
+use texts::put_text;
 
 pub const MARGIN: usize = 8;
 
@@ -15,10 +17,12 @@ pub fn fresh() -> [i64; LENT] {
     [PATTERN; LENT]
 }
 
-fn is_untouched(numbers: &[i64]) -> bool {
-    let mut k: usize = 0;
-    while k < numbers.len() {
-        if numbers[k] != PATTERN {
+// Whether nothing has changed from one place up to another.
+fn is_untouched(lent: &[i64; LENT], from: usize, end: usize) -> bool {
+    let stop = least(end, LENT);
+    let mut k = from;
+    while k < stop {
+        if lent[k] != PATTERN {
             return false;
         }
         k += 1;
@@ -26,36 +30,35 @@ fn is_untouched(numbers: &[i64]) -> bool {
     true
 }
 
-// Whether nothing has changed of a room of so many numbers.
-pub fn is_room_untouched(lent: &[i64], count: usize) -> bool
-    requires { ⌜ count ≤ room ⌝ }
-    requires { ⌜ lentNumbers ≤ length (now lent) ⌝ }
-{
-    let from = MARGIN;
-    let end = from + count;
-    is_untouched(&lent[from..end])
-}
-
-// Whether nothing has changed on its sides.
-pub fn are_sides_untouched(lent: &[i64], count: usize) -> bool
-    requires { ⌜ count ≤ room ⌝ }
-    requires { ⌜ lentNumbers ≤ length (now lent) ⌝ }
-{
-    let from = 0;
-    let start = MARGIN;
-    let end = start + count;
-    if is_untouched(&lent[from..start]) {
-        return is_untouched(&lent[end..]);
+// What a refusal left of a room that ends at a place.
+pub fn put_refused(
+    number: u64,
+    lent: &[i64; LENT],
+    end: usize,
+    out: &mut [u8; OUT],
+    at: usize,
+) -> usize {
+    let next = put_natural(number, out, at);
+    if is_untouched(lent, MARGIN, end) {
+        return put_text(b" untouched", out, next);
     }
-    false
+    put_text(b" touched", out, next)
 }
 
-// The checksum of what was written into it.
-pub fn sum_of(lent: &[i64], count: usize) -> u64
-    requires { ⌜ count ≤ room ⌝ }
-    requires { ⌜ lentNumbers ≤ length (now lent) ⌝ }
-{
-    let from = MARGIN;
-    let end = from + count;
-    checksum(&lent[from..end])
+// Says where one of its sides has changed.
+pub fn put_sides(lent: &[i64; LENT], end: usize, out: &mut [u8; OUT], at: usize) -> usize {
+    if is_untouched(lent, 0, MARGIN) & is_untouched(lent, end, LENT) {
+        return at;
+    }
+    put_text(b" outside", out, at)
+}
+
+// Takes what was written over into a space.
+pub fn store(lent: &[i64; LENT], into: u64, spaces: &mut [i64; ALL]) {
+    let start = start_of(into);
+    let mut k: usize = 0;
+    while k < ROOM {
+        spaces[start + k] = lent[MARGIN + k];
+        k += 1;
+    }
 }

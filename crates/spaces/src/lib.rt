@@ -9,7 +9,9 @@ mod reasons;
 mod rooms;
 mod uses;
 
+ghost use mathlib.Core.Path.{_≡_};
 ghost use Prim.Native.Nat.{_≤_};
+ghost use Rattle.spaces.specs.Held.{heldAfter, lineAfter};
 ghost use Rattle.texts.specs.Room.{room};
 use commands::Command;
 use commands::command_of;
@@ -43,8 +45,11 @@ fn obey(line: &[u8], spaces: &mut [i64; ALL], out: &mut [u8; OUT], at: usize) ->
     }
 }
 
-// One byte more of a line; of a line that is too long one byte more than it may have is counted.
-pub fn hold(byte: u8, line: &mut [u8; LINE], held: usize) -> usize {
+// One byte more of a line; gives how many are held, one more than there is room for where the line is too long.
+pub fn hold(byte: u8, line: &mut [u8; LINE], held: usize) -> usize
+    ensures { λ r. ⌜ r ≡ heldAfter held ⌝ }
+    ensures { λ r. ⌜ now (line .exit) ≡ lineAfter (now (line .entry)) held byte ⌝ }
+{
     if held >= LINE {
         return LINE + 1;
     }

@@ -49,13 +49,3 @@ pub fn larger(a: u64, b: u64) -> u64 {
     }
     a
 }
-
-// Copies as many numbers as there are and as there is room for.
-pub fn copy_numbers(source: &[i64], into: &mut [i64]) {
-    let count = least(source.len(), into.len());
-    let mut k: usize = 0;
-    while k < count {
-        into[k] = source[k];
-        k += 1;
-    }
-}

@@ -37,13 +37,17 @@ pub fn put_byte(byte: u8, out: &mut [u8; OUT], at: usize) -> usize
     at + 1
 }
 
-pub fn put_natural(n: u64, out: &mut [u8; OUT], at: usize) -> usize {
+pub fn put_natural(n: u64, out: &mut [u8; OUT], at: usize) -> usize
+    ensures { λ r. ⌜ r ≤ room ⌝ }
+{
     let mut digits = [0u8; 20];
     let count = io::decimal(n, &mut digits);
     put_text(&digits[..count], out, at)
 }
 
-pub fn put_signed(x: i64, out: &mut [u8; OUT], at: usize) -> usize {
+fn put_signed(x: i64, out: &mut [u8; OUT], at: usize) -> usize
+    ensures { λ r. ⌜ r ≤ room ⌝ }
+{
     let size = whole::magnitude(x);
     if x < 0 {
         let next = put_byte(b'-', out, at);
@@ -52,14 +56,18 @@ pub fn put_signed(x: i64, out: &mut [u8; OUT], at: usize) -> usize {
     put_natural(size, out, at)
 }
 
-// A space and a natural number.
-pub fn put_word(n: u64, out: &mut [u8; OUT], at: usize) -> usize {
-    let next = put_byte(b' ', out, at);
+// A natural number behind a text.
+pub fn put_named(text: &[u8], n: u64, out: &mut [u8; OUT], at: usize) -> usize
+    ensures { λ r. ⌜ r ≤ room ⌝ }
+{
+    let next = put_text(text, out, at);
     put_natural(n, out, next)
 }
 
 // A space and a bit pattern.
-pub fn put_bits(pattern: u64, out: &mut [u8; OUT], at: usize) -> usize {
+pub fn put_bits(pattern: u64, out: &mut [u8; OUT], at: usize) -> usize
+    ensures { λ r. ⌜ r ≤ room ⌝ }
+{
     let mut digits = [0u8; 16];
     let count = io::hex(pattern, 1, &mut digits);
     let next = put_byte(b' ', out, at);
@@ -67,7 +75,9 @@ pub fn put_bits(pattern: u64, out: &mut [u8; OUT], at: usize) -> usize {
 }
 
 // A number, and a space before it where it is not the first.
-fn put_number(x: i64, is_first: bool, out: &mut [u8; OUT], at: usize) -> usize {
+fn put_number(x: i64, is_first: bool, out: &mut [u8; OUT], at: usize) -> usize
+    ensures { λ r. ⌜ r ≤ room ⌝ }
+{
     if is_first {
         return put_signed(x, out, at);
     }
@@ -75,14 +85,23 @@ fn put_number(x: i64, is_first: bool, out: &mut [u8; OUT], at: usize) -> usize {
     put_signed(x, out, next)
 }
 
-// Numbers, parted by spaces.
-pub fn put_numbers(numbers: &[i64], out: &mut [u8; OUT], at: usize) -> usize {
-    let mut end = at;
-    let mut k: usize = 0;
-    while k < numbers.len() {
+// The numbers from one place up to another, parted by spaces.
+pub fn put_numbers(
+    numbers: &[i64],
+    from: usize,
+    end: usize,
+    out: &mut [u8; OUT],
+    at: usize,
+) -> usize
+    ensures { λ r. ⌜ r ≤ room ⌝ }
+{
+    let stop = least(end, numbers.len());
+    let mut put = least(at, OUT);
+    let mut k = from;
+    while k < stop {
         let number = numbers[k];
-        end = put_number(number, k == 0, out, end);
+        put = put_number(number, k == from, out, put);
         k += 1;
     }
-    end
+    put
 }

@@ -1,15 +1,21 @@
--- `texts::put_numbers` meets its contract: the loop counts up to its end. Assumes nothing.
+-- `texts::put_numbers` meets its contract: the end stays within the room. Assumes nothing.
 use Prim.Native.Nat.{_≤_, _-_}
-use lib.ListN.{length}
+use Rattle.texts.specs.Room.{room}
 use borrow.Author.Needs.{needs}
 use Rattle.texts.proofs.put_numbers.Statement.{statement}
 use Rattle.texts.proofs.put_numbers.Tie as tie
 
 abbrev Inv-loop : tie.InvT-loop
-Inv-loop numbers out₀ at end₀ k₀ out end k = (k ≤ length numbers)
+Inv-loop numbers from end out₀ at stop put₀ k₀ out put k = (put ≤ room)
 
 abbrev μ-loop : tie.MeasureT-loop
-μ-loop numbers out₀ at end₀ k₀ out end k = length numbers - k
+μ-loop numbers from end out₀ at stop put₀ k₀ out put k = stop - k
+
+least-requires : tie.Need-least-requires Inv-loop μ-loop
+least-requires c κs = search needs
+
+least-requires-2 : tie.Need-least-requires-2 Inv-loop μ-loop
+least-requires-2 c κs = search needs
 
 loop-holds : tie.Need-loop-holds Inv-loop μ-loop
 loop-holds c = search needs
@@ -41,6 +47,8 @@ put-numbers-spec =
     (tie.spec
     Inv-loop
     μ-loop
+    least-requires
+    least-requires-2
     loop-holds
     mul-number
     shared-slice-copy-out-number

@@ -1,16 +1,18 @@
--- `spaces::drawing::checksum` meets its contract. Assumes nothing.
+-- `spaces::drawing::checksum` meets its contract: the loop counts up to its end. Assumes nothing.
 use Prim.Native.Nat.{_≤_, _-_}
-use lib.ListN.{length}
 use borrow.Author.Needs.{needs}
 use Rattle.spaces.proofs.drawing.checksum.Statement.{statement}
 use Rattle.spaces.proofs.drawing.checksum.Tie as tie
 use Rattle.std.proofs.num.wrapping_add_u64.Reads as wrapping-add-u64-reads
 
 abbrev Inv-loop : tie.InvT-loop
-Inv-loop numbers sum₀ k₀ sum k = (k ≤ length numbers)
+Inv-loop numbers from end stop sum₀ k₀ sum k = (0 ≤ k)
 
 abbrev μ-loop : tie.MeasureT-loop
-μ-loop numbers sum₀ k₀ sum k = length numbers - k
+μ-loop numbers from end stop sum₀ k₀ sum k = stop - k
+
+least-requires : tie.Need-least-requires Inv-loop μ-loop
+least-requires c κs = search needs
 
 loop-holds : tie.Need-loop-holds Inv-loop μ-loop
 loop-holds c = search needs
@@ -48,6 +50,7 @@ checksum-spec =
     (tie.spec
     Inv-loop
     μ-loop
+    least-requires
     loop-holds
     mul-number
     shared-slice-copy-out-number

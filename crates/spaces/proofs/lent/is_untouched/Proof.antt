@@ -1,15 +1,17 @@
--- `spaces::lent::is_untouched` meets its contract. Assumes nothing.
+-- `spaces::lent::is_untouched` meets its contract: the loop counts up to its end. Assumes nothing.
 use Prim.Native.Nat.{_≤_, _-_}
-use lib.ListN.{length}
 use borrow.Author.Needs.{needs}
 use Rattle.spaces.proofs.lent.is_untouched.Statement.{statement}
 use Rattle.spaces.proofs.lent.is_untouched.Tie as tie
 
 abbrev Inv-loop : tie.InvT-loop
-Inv-loop numbers k₀ k = (k ≤ length numbers)
+Inv-loop lent from end stop k₀ k = (0 ≤ k)
 
 abbrev μ-loop : tie.MeasureT-loop
-μ-loop numbers k₀ k = length numbers - k
+μ-loop lent from end stop k₀ k = stop - k
+
+least-requires : tie.Need-least-requires Inv-loop μ-loop
+least-requires c κs = search needs
 
 loop-holds : tie.Need-loop-holds Inv-loop μ-loop
 loop-holds c = search needs
@@ -17,8 +19,8 @@ loop-holds c = search needs
 mul-if1 : tie.Need-mul-if1 Inv-loop μ-loop
 mul-if1 c = search needs
 
-shared-slice-copy-out-if1 : tie.Need-shared-slice-copy-out-if1 Inv-loop μ-loop
-shared-slice-copy-out-if1 c = search needs
+element-copy-out-if1 : tie.Need-element-copy-out-if1 Inv-loop μ-loop
+element-copy-out-if1 c = search needs
 
 returns : tie.Need-returns Inv-loop μ-loop
 returns c = search needs
@@ -41,9 +43,10 @@ is-untouched-spec =
     (tie.spec
     Inv-loop
     μ-loop
+    least-requires
     loop-holds
     mul-if1
-    shared-slice-copy-out-if1
+    element-copy-out-if1
     returns
     add-k
     loop-less
