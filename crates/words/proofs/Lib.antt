@@ -1,3 +1,4 @@
+pub mod Controls
 pub mod Reading
 pub mod Runs
 pub mod Slices

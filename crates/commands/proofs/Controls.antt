@@ -1,0 +1,43 @@
+-- Facts that would fail if a definition said something else: lines read by hand.
+use mathlib.Core.Path.{_≡_, refl}
+use mathlib.Core.List.{List, [], _∷_, map}
+use lib.IntN.{pos, negsuc}
+use Rattle.words.specs.Words.{words}
+use Rattle.words.specs.Numbers.{magnitude}
+use Rattle.commands.specs.Text.{text}
+use Rattle.commands.specs.Commands.{names, kinds, command}
+use Rattle.commands.specs.declared.Name.the-variants as N
+use Rattle.commands.specs.declared.Operation.the-variants as O
+use Rattle.commands.specs.declared.Keeping.the-variants as K
+use Rattle.commands.specs.declared.Command.the-variants as C
+
+-- answered with themselves
+silent : map command (map text ("" ∷ "   " ∷ "# read 0" ∷ "  #" ∷ [])) ≡ C.Blank ∷ C.Blank ∷ C.Comment ∷ C.Comment ∷ []
+unfolding words names kinds magnitude
+silent = refl
+
+operations : map command (map text ("publish 9" ∷ " move 0  4 -250 1 " ∷ "read 1 6 -1 2 -3 4 5" ∷ "floats 1 0 3ff0000000000000 2 3 a" ∷ []))
+    ≡ C.Operation (O.Publish 9)
+    ∷ C.Operation (O.Move 0 4 (negsuc 249) 1)
+    ∷ C.Operation (O.Read 1 6 (negsuc 0) (pos 2) (negsuc 2) (pos 4) (pos 5))
+    ∷ C.Operation (O.Floats 1 0 4607182418800017408 2 3 10)
+    ∷ []
+unfolding words names kinds magnitude
+operations = refl
+
+keepings : map command (map text ("length 0 7" ∷ "set 2 310 -5" ∷ "fill 1 2 3 4 5" ∷ "copy 3 4" ∷ "show 5 6 7" ∷ "sum 8" ∷ []))
+    ≡ C.Keeping (K.Length 0 7)
+    ∷ C.Keeping (K.Set 2 310 (negsuc 4))
+    ∷ C.Keeping (K.Fill 1 2 3 4 5)
+    ∷ C.Keeping (K.Copy 3 4)
+    ∷ C.Keeping (K.Show 5 6 7)
+    ∷ C.Keeping (K.Sum 8)
+    ∷ []
+unfolding words names kinds magnitude
+keepings = refl
+
+-- no such command, one word too few, one too many, no such number
+misused : map command (map text ("sums 1" ∷ "Sum 1" ∷ "a" ∷ "sum" ∷ "sum 1 2" ∷ "publish -1" ∷ "set 0 0 9223372036854775808" ∷ "floats 0 0 0 0 0 A" ∷ []))
+    ≡ map C.Misused (N.Other ∷ N.Other ∷ N.Other ∷ N.Sum ∷ N.Sum ∷ N.Publish ∷ N.Set ∷ N.Floats ∷ [])
+unfolding words names kinds magnitude
+misused = refl
