@@ -13,6 +13,7 @@ use Rattle.commands.specs.declared.Name.{Name}
 use Rattle.commands.specs.declared.Name.the-variants as N
 use Rattle.commands.specs.declared.Operation.{Operation}
 use Rattle.commands.specs.declared.Operation.the-variants as O
+use Rattle.commands.specs.declared.Five.{Five}
 use Rattle.commands.specs.declared.Keeping.{Keeping}
 use Rattle.commands.specs.declared.Keeping.the-variants as K
 use Rattle.commands.specs.declared.Command.{Command}
@@ -48,6 +49,11 @@ fit (w ∷ ws) [] = false
 fit (w ∷ ws) (b ∷ bs) = magnitude (kindOf b) w .said && fit ws bs
 
 -- ════ what is asked, where they fit
+-- the words behind the name as naturals
+abbrev pub naturals : List ℕ → Five
+naturals l =
+    record { one = naturalAt l 1; two = naturalAt l 2; three = naturalAt l 3; four = naturalAt l 4; five = naturalAt l 5 }
+
 abbrev pub asked : Name → List ℕ → Command
 asked N.Publish l = C.Operation (O.Publish (naturalAt l 1))
 asked N.Move l = C.Operation (O.Move (naturalAt l 1) (naturalAt l 2) (signedAt l 3) (naturalAt l 4))

@@ -4,7 +4,7 @@ ghost use Prim.Native.Nat.{_≤_, _<_};
 ghost use lib.ListN.{length, drop};
 ghost use lib.Seq.{slice};
 ghost use Rattle.words.specs.Words.{words, wordAt};
-ghost use Rattle.commands.specs.Commands.{place, placeOf, nameAt, kindOf, fit, fits, asked, startsWith, command};
+ghost use Rattle.commands.specs.Commands.{place, placeOf, nameAt, kindOf, fit, fits, naturals, asked, startsWith, command};
 use words::Kind;
 use words::bits_at;
 use words::has_word;
@@ -97,6 +97,15 @@ pub enum Command {
     Misused { name: Name },
     Operation { operation: Operation },
     Keeping { keeping: Keeping },
+}
+
+// Five numbers.
+pub struct Five {
+    pub one: u64,
+    pub two: u64,
+    pub three: u64,
+    pub four: u64,
+    pub five: u64,
 }
 
 // How many names there are.
@@ -235,61 +244,16 @@ fn reading_floats(line: &[u8]) -> Operation
     }
 }
 
-fn giving_length(line: &[u8]) -> Keeping
-    ensures { λ r. ⌜ Command.Keeping r ≡ asked Name.Length (now (line .entry)) ⌝ }
+// The words behind the name as naturals.
+fn naturals(line: &[u8]) -> Five
+    ensures { λ r. ⌜ r ≡ naturals (now (line .entry)) ⌝ }
 {
-    Keeping::Length {
-        space: natural_at(line, 1),
-        count: natural_at(line, 2),
-    }
-}
-
-fn setting(line: &[u8]) -> Keeping
-    ensures { λ r. ⌜ Command.Keeping r ≡ asked Name.Set (now (line .entry)) ⌝ }
-{
-    Keeping::Set {
-        space: natural_at(line, 1),
-        place: natural_at(line, 2),
-        number: signed_at(line, 3),
-    }
-}
-
-fn filling(line: &[u8]) -> Keeping
-    ensures { λ r. ⌜ Command.Keeping r ≡ asked Name.Fill (now (line .entry)) ⌝ }
-{
-    Keeping::Fill {
-        space: natural_at(line, 1),
-        place: natural_at(line, 2),
-        step: natural_at(line, 3),
-        size: natural_at(line, 4),
-        seed: natural_at(line, 5),
-    }
-}
-
-fn copying(line: &[u8]) -> Keeping
-    ensures { λ r. ⌜ Command.Keeping r ≡ asked Name.Copy (now (line .entry)) ⌝ }
-{
-    Keeping::Copy {
-        space: natural_at(line, 1),
-        into: natural_at(line, 2),
-    }
-}
-
-fn showing(line: &[u8]) -> Keeping
-    ensures { λ r. ⌜ Command.Keeping r ≡ asked Name.Show (now (line .entry)) ⌝ }
-{
-    Keeping::Show {
-        space: natural_at(line, 1),
-        place: natural_at(line, 2),
-        count: natural_at(line, 3),
-    }
-}
-
-fn summing(line: &[u8]) -> Keeping
-    ensures { λ r. ⌜ Command.Keeping r ≡ asked Name.Sum (now (line .entry)) ⌝ }
-{
-    Keeping::Sum {
-        space: natural_at(line, 1),
+    Five {
+        one: natural_at(line, 1),
+        two: natural_at(line, 2),
+        three: natural_at(line, 3),
+        four: natural_at(line, 4),
+        five: natural_at(line, 5),
     }
 }
 
@@ -311,13 +275,34 @@ fn keeping_at(line: &[u8], place: usize) -> Keeping
     requires { ⌜ (4 ≤ place) × (place < 10) ⌝ }
     ensures { λ r. ⌜ Command.Keeping r ≡ asked (nameAt place) (now (line .entry)) ⌝ }
 {
+    let n = naturals(line);
     match place {
-        4 => giving_length(line),
-        5 => setting(line),
-        6 => filling(line),
-        7 => copying(line),
-        8 => showing(line),
-        _ => summing(line),
+        4 => Keeping::Length {
+            space: n.one,
+            count: n.two,
+        },
+        5 => Keeping::Set {
+            space: n.one,
+            place: n.two,
+            number: signed_at(line, 3),
+        },
+        6 => Keeping::Fill {
+            space: n.one,
+            place: n.two,
+            step: n.three,
+            size: n.four,
+            seed: n.five,
+        },
+        7 => Keeping::Copy {
+            space: n.one,
+            into: n.two,
+        },
+        8 => Keeping::Show {
+            space: n.one,
+            place: n.two,
+            count: n.three,
+        },
+        _ => Keeping::Sum { space: n.one },
     }
 }
 
