@@ -174,6 +174,7 @@ fn fits_in(line: &[u8], kinds: &[u8], place: usize) -> bool
     fit(line, kinds, word.start, word.end)
 }
 
+// Whether the words of a line are those of the command at a place.
 fn fits(line: &[u8], place: usize) -> bool
     ensures { λ r. ⌜ r ≡ fits (now (line .entry)) place ⌝ }
 {
@@ -195,25 +196,6 @@ fn name_at(place: usize) -> Name
         8 => Name::Show,
         9 => Name::Sum,
         _ => Name::Other,
-    }
-}
-
-fn publishing(line: &[u8]) -> Operation
-    ensures { λ r. ⌜ Command.Operation r ≡ asked Name.Publish (now (line .entry)) ⌝ }
-{
-    Operation::Publish {
-        into: natural_at(line, 1),
-    }
-}
-
-fn moving(line: &[u8]) -> Operation
-    ensures { λ r. ⌜ Command.Operation r ≡ asked Name.Move (now (line .entry)) ⌝ }
-{
-    Operation::Move {
-        space: natural_at(line, 1),
-        variable: natural_at(line, 2),
-        shift: signed_at(line, 3),
-        into: natural_at(line, 4),
     }
 }
 
@@ -262,9 +244,15 @@ fn operation_at(line: &[u8], place: usize) -> Operation
     requires { ⌜ place < 4 ⌝ }
     ensures { λ r. ⌜ Command.Operation r ≡ asked (nameAt place) (now (line .entry)) ⌝ }
 {
+    let n = naturals(line);
     match place {
-        0 => publishing(line),
-        1 => moving(line),
+        0 => Operation::Publish { into: n.one },
+        1 => Operation::Move {
+            space: n.one,
+            variable: n.two,
+            shift: signed_at(line, 3),
+            into: n.four,
+        },
         2 => reading(line),
         _ => reading_floats(line),
     }
@@ -323,14 +311,12 @@ fn asked(line: &[u8], place: usize) -> Command
     Command::Misused { name: Name::Other }
 }
 
+// Whether the first word, which is there, starts with `#`.
 fn is_comment(line: &[u8]) -> bool
+    requires { ⌜ 0 < length (words (now line)) ⌝ }
     ensures { λ r. ⌜ r ≡ startsWith 35 (wordAt (now (line .entry)) 0) ⌝ }
 {
-    let word = word_at(line, 0);
-    let start = word.start;
-    if start >= word.end {
-        return false;
-    }
+    let start = word_at(line, 0).start;
     line[start] == b'#'
 }
 

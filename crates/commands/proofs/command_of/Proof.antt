@@ -5,6 +5,7 @@ use mathlib.Core.Bool.{Bool, true, false, cond, not}
 use mathlib.Core.List.{List}
 use Prim.Native.Nat.{ℕ}
 use borrow.Author.Needs.{needs}
+use borrow.Author.Tests.{ltb-true, not-false}
 use lib.Dec.{ltb}
 use lib.ListN.{length}
 use Rattle.words.specs.Words.{words, wordAt}
@@ -50,7 +51,9 @@ returns c =
     by-tests line true (startsWith 35 (wordAt line 0)) (fits line (placeOf line)) (sym (c .if1 .taken) ∙ ap not (has .ensures)) refl refl
 
 is-comment-requires : tie.Need-is-comment-requires
-is-comment-requires c κs = search needs
+is-comment-requires c κs =
+    let has = c .before .has-word in
+    ltb-true 0 (length (words (c .before .before .before .args .line .now))) (sym (has .ensures) ∙ not-false (has .result) (c .if1 .left))
 
 returns-2 : tie.Need-returns-2
 returns-2 c =

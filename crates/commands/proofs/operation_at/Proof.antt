@@ -1,17 +1,20 @@
 -- `commands::operation_at` meets its contract: by the cases of the place.
 -- Assumes nothing.
-use mathlib.Core.Path.{_≡_, sym, ap, _∙_}
+use mathlib.Core.Path.{_≡_, sym, ap, ap₂, _∙_}
 use native.Mathlib.Omega.{arith}
-use borrow.Author.Needs.{needs}
+use borrow.Author.Needs.{needs, sfits-of}
+use mir.Facts.{toZ-ofZ}
 use Rattle.commands.specs.Commands.{nameAt, asked}
+use Rattle.commands.specs.declared.Operation.the-variants as O
+use Rattle.commands.specs.declared.Command.the-variants as C
 use Rattle.commands.proofs.operation_at.Statement.{statement}
 use Rattle.commands.proofs.operation_at.Tie as tie
 
-publishing-requires : tie.Need-publishing-requires
-publishing-requires c κs = search needs
+naturals-requires : tie.Need-naturals-requires
+naturals-requires c κs = search needs
 
-moving-requires : tie.Need-moving-requires
-moving-requires c κs = search needs
+signed-at-requires : tie.Need-signed-at-requires
+signed-at-requires c κs = search needs
 
 reading-requires : tie.Need-reading-requires
 reading-requires c κs = search needs
@@ -22,33 +25,36 @@ reading-floats-requires c κs = search needs
 returns : tie.Need-returns
 returns c =
     let a = c .before .before .before .args in
-    let e : a .place ≡ 0 = omega (arith, c .before .match .keys1) in
-    c .publishing .ensures ∙ sym (ap (λ p. asked (nameAt p) (a .line .now)) e)
+    let e : a .place ≡ 0 = omega (arith, c .match .keys1) in
+    ap (λ n. C.Operation (O.Publish (n .one))) (c .before .naturals .ensures)
+    ∙ sym (ap (λ p. asked (nameAt p) (a .line .now)) e)
 
 returns-2 : tie.Need-returns-2
 returns-2 c =
-    let a = c .before .before .before .args in
+    let a = c .before .before .before .before .args in
     let e : a .place ≡ 1 = omega (arith, c .before .match .keys2) in
-    c .moving .ensures ∙ sym (ap (λ p. asked (nameAt p) (a .line .now)) e)
+    let shift = toZ-ofZ (sfits-of {z = c .signed-at .result} (c .signed-at .ok)) ∙ c .signed-at .ensures in
+    ap₂ (λ n z. C.Operation (O.Move (n .one) (n .two) z (n .four))) (c .before .before .naturals .ensures) shift
+    ∙ sym (ap (λ p. asked (nameAt p) (a .line .now)) e)
 
 returns-3 : tie.Need-returns-3
 returns-3 c =
-    let a = c .before .before .before .args in
+    let a = c .before .before .before .before .args in
     let e : a .place ≡ 2 = omega (arith, c .before .match .keys3) in
     c .reading .ensures ∙ sym (ap (λ p. asked (nameAt p) (a .line .now)) e)
 
 returns-4 : tie.Need-returns-4
 returns-4 c =
-    let a = c .before .before .before .args in
-    let e : a .place ≡ 3 = omega (arith, c .before .before .before .pre) in
+    let a = c .before .before .before .before .args in
+    let e : a .place ≡ 3 = omega (arith, c .before .before .before .before .pre) in
     c .reading-floats .ensures ∙ sym (ap (λ p. asked (nameAt p) (a .line .now)) e)
 
 pub operation-at-spec : {M : Type 1} → statement M
 operation-at-spec =
     tie.close
     (tie.spec
-    publishing-requires
-    moving-requires
+    naturals-requires
+    signed-at-requires
     reading-requires
     reading-floats-requires
     returns
