@@ -1,13 +1,12 @@
 // The words of a line, which spaces part, and the numbers that they say.
 ghost use mathlib.Core.Path.{_≡_};
-ghost use mathlib.Core.Bool.{cond};
-ghost use Prim.Native.Nat.{_+_, _-_, _≤_};
+ghost use Prim.Native.Nat.{_+_, _≤_};
 ghost use lib.Dec.{ltb};
 ghost use lib.ListN.{length, drop};
 ghost use lib.Seq.{slice};
 ghost use Rattle.words.specs.Words.{words, wordAt, same, IsAt};
-ghost use Rattle.words.specs.Numbers.{digitOf, digits, signless, hasMinus, isNumber, naturalAt, bitsAt, signedAt, signed, signedOf, least, largest};
-ghost use Rattle.words.specs.Steps.{run, First, Passed, Ready, extended, withByte};
+ghost use Rattle.words.specs.Numbers.{digitOf, digits, signless, hasMinus, isNumber, naturalAt, bitsAt, signedAt, largest};
+ghost use Rattle.words.specs.Steps.{run, First, Passed, Ready, withByte};
 
 // The largest number of 64 bits, and the distance of the least signed one from 0.
 const LARGEST: u64 = 18446744073709551615;
@@ -135,11 +134,16 @@ fn digit_of(byte: u8) -> u8
     16
 }
 
-// One digit more. The second test asks whether the limit is passed, without passing it.
-fn extended(value: u64, digit: u64, base: u64, limit: u64) -> Number
+// One byte more. The last test asks whether the limit is passed, without passing it.
+fn with_byte(past: Number, byte: u8, base: u64, limit: u64) -> Number
     requires { ⌜ Ready base limit ⌝ }
-    ensures { λ r. ⌜ r ≡ extended base limit value digit ⌝ }
+    ensures { λ r. ⌜ r ≡ withByte base limit past byte ⌝ }
 {
+    if !past.said {
+        return past;
+    }
+    let value = past.value;
+    let digit = digit_of(byte) as u64;
     if digit >= base {
         return UNSAID;
     }
@@ -150,17 +154,6 @@ fn extended(value: u64, digit: u64, base: u64, limit: u64) -> Number
         said: true,
         value: value * base + digit,
     }
-}
-
-// One byte more.
-fn with_byte(past: Number, byte: u8, base: u64, limit: u64) -> Number
-    requires { ⌜ Ready base limit ⌝ }
-    ensures { λ r. ⌜ r ≡ withByte base limit past byte ⌝ }
-{
-    if past.said {
-        return extended(past.value, digit_of(byte) as u64, base, limit);
-    }
-    past
 }
 
 // The number that a part of a line says by its digits.
@@ -182,28 +175,6 @@ fn digits_in(line: &[u8], mut at: usize, end: usize, base: u64, limit: u64) -> N
     past
 }
 
-// Whether a part of a line starts with a minus.
-fn minus_in(line: &[u8], start: usize, end: usize) -> bool
-    requires { ⌜ end ≤ length (now line) ⌝ }
-    ensures { λ r. ⌜ r ≡ hasMinus (slice start end (now (line .entry))) ⌝ }
-{
-    if start >= end {
-        return false;
-    }
-    line[start] == b'-'
-}
-
-// The number that a part of a line says behind its minus, where it has one.
-fn signless_in(line: &[u8], start: usize, end: usize) -> Number
-    requires { ⌜ end ≤ length (now line) ⌝ }
-    ensures { λ r. ⌜ r ≡ signless (slice start end (now (line .entry))) ⌝ }
-{
-    if minus_in(line, start, end) {
-        return digits_in(line, start + 1, end, 10, LEAST);
-    }
-    digits_in(line, start, end, 10, LEAST - 1)
-}
-
 // The number that a word says by digits of a base.
 fn digits_at(line: &[u8], k: usize, base: u64) -> Number
     requires { ⌜ Ready base largest ⌝ }
@@ -213,11 +184,27 @@ fn digits_at(line: &[u8], k: usize, base: u64) -> Number
     digits_in(line, word.start, word.end, base, LARGEST)
 }
 
+// Whether a word starts with a minus.
+fn minus_at(line: &[u8], k: usize) -> bool
+    ensures { λ r. ⌜ r ≡ hasMinus (wordAt (now (line .entry)) k) ⌝ }
+{
+    let word = word_at(line, k);
+    let start = word.start;
+    if start >= word.end {
+        return false;
+    }
+    line[start] == b'-'
+}
+
+// The number that a word says behind its minus, where it has one.
 fn signless_at(line: &[u8], k: usize) -> Number
     ensures { λ r. ⌜ r ≡ signless (wordAt (now (line .entry)) k) ⌝ }
 {
     let word = word_at(line, k);
-    signless_in(line, word.start, word.end)
+    if minus_at(line, k) {
+        return digits_in(line, word.start + 1, word.end, 10, LEAST);
+    }
+    digits_in(line, word.start, word.end, 10, LEAST - 1)
 }
 
 // Whether a word says a number of a kind.
@@ -244,34 +231,16 @@ pub fn bits_at(line: &[u8], k: usize) -> u64
     digits_at(line, k, 16).value
 }
 
-// A magnitude with its sign. The least number has no magnitude that is a signed number of 64 bits.
-fn signed(negative: bool, value: u64) -> i64
-    requires { ⌜ value ≤ cond negative least (least - 1) ⌝ }
-    ensures { λ r. ⌜ r ≡ signed negative value ⌝ }
+// The least number has no magnitude that is a signed number of 64 bits.
+pub fn signed_at(line: &[u8], k: usize) -> i64
+    ensures { λ r. ⌜ r ≡ signedAt (now (line .entry)) k ⌝ }
 {
-    if negative {
+    let value = signless_at(line, k).value;
+    if minus_at(line, k) {
         if value >= LEAST {
             return i64::MIN;
         }
         return -(value as i64);
     }
     value as i64
-}
-
-// The signed number that a part of a line says.
-fn signed_in(line: &[u8], start: usize, end: usize) -> i64
-    requires { ⌜ end ≤ length (now line) ⌝ }
-    ensures { λ r. ⌜ r ≡ signedOf (slice start end (now (line .entry))) ⌝ }
-{
-    signed(
-        minus_in(line, start, end),
-        signless_in(line, start, end).value,
-    )
-}
-
-pub fn signed_at(line: &[u8], k: usize) -> i64
-    ensures { λ r. ⌜ r ≡ signedAt (now (line .entry)) k ⌝ }
-{
-    let word = word_at(line, k);
-    signed_in(line, word.start, word.end)
 }
