@@ -99,13 +99,13 @@ pub enum Command {
     Keeping { keeping: Keeping },
 }
 
-// Five numbers.
-pub struct Five {
-    pub one: u64,
-    pub two: u64,
-    pub three: u64,
-    pub four: u64,
-    pub five: u64,
+// The numbers of five words.
+struct Five {
+    one: u64,
+    two: u64,
+    three: u64,
+    four: u64,
+    five: u64,
 }
 
 // How many names there are.

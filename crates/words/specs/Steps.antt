@@ -17,7 +17,6 @@ run space (b ∷ bs) = cond (Bool·beq (eqb b 32) space) (b ∷ run space bs) []
 
 -- the first word from a place on, behind which the other words stand
 pub record First (line : List ℕ) (from : ℕ) (word : Word) : Type 0 where
-  pub forward : from ≤ word .start
   pub at : IsAt line (wordAt (drop from line) 0) word
   pub later : words (drop (word .end) line) ≡ drop 1 (words (drop from line))
 

@@ -32,9 +32,9 @@ pub enum Kind {
 }
 
 // The number that a word says, where it says one.
-pub struct Number {
-    pub said: bool,
-    pub value: u64,
+struct Number {
+    said: bool,
+    value: u64,
 }
 
 // The place behind the bytes from a place on that are spaces, or that are none.

@@ -27,7 +27,6 @@ returns c =
     let starts = c .before .run-end .ensures in
     let ends = c .run-end2 .ensures ∙ ap (λ n. n + length (run false (drop n l))) starts in
     record {
-      forward = omega (arith, starts);
       at = record {
         ordered = omega (arith, c .run-end2 .ensures);
         within = omega (arith, ends, first-within l (a .from) (s .pre));
