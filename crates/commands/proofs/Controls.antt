@@ -1,6 +1,6 @@
 -- Facts that would fail if a definition said something else: lines read by hand.
 use mathlib.Core.Path.{_≡_, refl}
-use mathlib.Core.List.{List, [], _∷_, map}
+use mathlib.Core.List.{[], _∷_, map}
 use lib.IntN.{pos, negsuc}
 use Rattle.words.specs.Words.{words}
 use Rattle.words.specs.Numbers.{magnitude}

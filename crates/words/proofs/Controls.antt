@@ -4,12 +4,11 @@ use mathlib.Core.List.{List, [], _∷_, map}
 use Prim.Native.Char.{code}
 use Prim.Native.Nat.{ℕ}
 use Prim.Native.String.{String, [] as []ˢ, _∷_ as _∷ˢ_}
-use lib.IntN.{ℤ, pos, negsuc}
+use lib.IntN.{pos, negsuc}
 use lib.ListN.{replicate}
 use Rattle.words.specs.Words.{words, wordAt}
 use Rattle.words.specs.Numbers.{said, unsaid, magnitude, signedOf}
 use Rattle.words.specs.declared.Kind.the-variants.{Natural, Signed, Bits}
-use Rattle.words.specs.declared.Number.{Number}
 
 abbrev bytes : String → List ℕ
 bytes []ˢ = []

@@ -10,10 +10,10 @@ use Prim.Native.Nat.{ℕ, _+_, _*_, _-_, _≤_, _<_}
 use native.Mathlib.Nat.{mul-le-mul-left}
 use native.Mathlib.Omega.{arith}
 use borrow.Author.Tests.{leb-true, leb-false, le-leb, lt-leb, lt-ltb, le-ltb}
-use lib.Dec.{leb, ltb, eqb}
+use lib.Dec.{leb}
 use lib.ListN.{length, drop}
 use Rattle.words.specs.Numbers.{digitOf, allDigits, valueOn, digits, signless, hasMinus, said, unsaid, least}
-use Rattle.words.specs.Steps.{extended, withByte}
+use Rattle.words.specs.Steps.{withByte}
 use Rattle.words.specs.declared.Number.{Number}
 
 module _ (base limit : ℕ) where

@@ -2,17 +2,17 @@
 -- Assumes nothing.
 use mathlib.Core.Path.{_≡_, refl, sym, ap, _∙_}
 use mathlib.Core.Bool.{Bool, true, false, not, _&&_}
-use mathlib.Core.List.{List, [], _∷_}
-use Prim.Native.Nat.{ℕ, _+_, _-_, _≤_, _<_}
+use mathlib.Core.List.{List, _∷_}
+use Prim.Native.Nat.{ℕ, _+_, _-_, _≤_}
 use native.Mathlib.Numerals.{add-one}
 use native.Mathlib.Omega.{arith}
 use borrow.Author.Needs.{needs}
 use borrow.Author.Tests.{not-true, not-false}
-use lib.ListN.{length, drop, getD, take, drop-of-length-le}
+use lib.ListN.{drop, getD, take, drop-of-length-le}
 use lib.Seq.{slice, slice-cons, length-take-le}
 use Rattle.words.specs.Words.{words}
 use Rattle.words.specs.Numbers.{isNumber}
-use Rattle.commands.specs.Commands.{fit, kindOf}
+use Rattle.commands.specs.Commands.{fit}
 use Rattle.commands.proofs.Fitting.{fit-more, fit-end}
 use Rattle.commands.proofs.fit.Statement.{statement}
 use Rattle.commands.proofs.fit.Tie as tie

@@ -8,8 +8,6 @@ use Rattle.commands.specs.declared.Name.the-variants as N
 use borrow.Author.Needs.{needs}
 use Rattle.commands.proofs.name_at.Statement.{statement}
 use Rattle.commands.proofs.name_at.Tie as tie
-use Rattle.commands.proofs.name_at.Reads as reads
-use Rattle.commands.proofs.name_at.Lts as lts
 
 past : (n : ℕ) {p : ℕ} → n ≤ p → (p ≡ n → ⊥) → n + 1 ≤ p
 past n h e = omega arith

@@ -1,8 +1,7 @@
 -- `commands::naturals` meets its contract: number by number. Assumes nothing.
-use mathlib.Core.Path.{_≡_, ap, _∙_}
+use mathlib.Core.Path.{_≡_}
 use Prim.Native.Nat.{ℕ}
 use borrow.Author.Needs.{needs}
-use Rattle.words.specs.Numbers.{naturalAt}
 use Rattle.commands.specs.declared.Five.{Five}
 use Rattle.commands.proofs.naturals.Statement.{statement}
 use Rattle.commands.proofs.naturals.Tie as tie

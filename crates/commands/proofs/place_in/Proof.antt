@@ -1,12 +1,12 @@
 -- `commands::place_in` meets its contract. The loop's invariant: the word's place among the names that are left, and those passed.
 -- Assumes nothing.
-use mathlib.Core.Path.{_≡_, refl, sym, ap, _∙_}
+use mathlib.Core.Path.{_≡_, sym, ap, _∙_}
 use mathlib.Core.Bool.{Bool, true, false, cond}
 use mathlib.Core.List.{List}
-use Prim.Native.Nat.{ℕ, suc, _+_, _-_, _≤_, _<_}
+use Prim.Native.Nat.{ℕ, suc, _+_, _-_}
 use native.Mathlib.Omega.{arith}
 use borrow.Author.Needs.{needs}
-use lib.ListN.{length, drop}
+use lib.ListN.{drop}
 use Rattle.words.specs.Words.{words, wordAt}
 use Rattle.commands.specs.Commands.{place}
 use Rattle.commands.proofs.Fitting.{place-more, place-end}

@@ -1,11 +1,9 @@
 -- `words::digits_in` meets its contract. The loop's invariant: the bytes that are left make of the number so far what the digits say.
 -- Assumes nothing.
-use mathlib.Core.Path.{_≡_, refl, sym, ap, ap₂, _∙_}
-use mathlib.Core.List.{List, [], _∷_}
-use Prim.Native.Nat.{ℕ, _+_, _-_, _≤_, _<_}
+use mathlib.Core.Path.{_≡_, sym, ap, _∙_}
+use Prim.Native.Nat.{_+_, _-_}
 use native.Mathlib.Omega.{arith}
 use borrow.Author.Needs.{needs}
-use lib.ListN.{length, getD}
 use lib.Seq.{slice, length-slice}
 use Rattle.words.specs.Numbers.{digits}
 use Rattle.words.proofs.Slices.{slice-none, slice-more}

@@ -1,9 +1,8 @@
 -- `words::has_word` meets its contract: no word is empty, and where there are fewer words the place is.
 -- Assumes nothing.
-use mathlib.Core.Path.{_≡_, sym, ap, _∙_}
+use mathlib.Core.Path.{sym, ap, _∙_}
 use Prim.Native.Nat.{_-_}
 use borrow.Author.Needs.{needs}
-use lib.Dec.{ltb}
 use lib.ListN.{length}
 use lib.Seq.{length-slice}
 use Rattle.words.proofs.Runs.{word-some}

@@ -12,7 +12,7 @@ use mir.Syntax.{w64}
 use mir.Val.{SFits, toZ, ofZ}
 use mir.Facts.{toZ-ofZ, toZ-pos}
 use Rattle.words.specs.Words.{wordAt}
-use Rattle.words.specs.Numbers.{magnitude, hasMinus, signed, signless, signedOf, least}
+use Rattle.words.specs.Numbers.{magnitude, signed, signless, signedOf, least}
 use Rattle.words.proofs.Reading.{signless-within}
 use Rattle.words.proofs.signed_at.Statement.{statement}
 use Rattle.words.proofs.signed_at.Tie as tie
