@@ -1,11 +1,11 @@
 -- `commands::name_at` meets its contract: by the cases of the place. Assumes nothing.
-use mathlib.Core.Path.{_≡_, sym}
+use mathlib.Core.Path.{_≡_, sym, ap}
 use mathlib.Core.List.{[], _∷_}
 use Prim.Native.Nat.{ℕ, _+_, _≤_}
 use native.Mathlib.Omega.{arith}
 use lib.ListN.{List·getD-eq-default}
+use Rattle.commands.specs.Commands.{nameAt}
 use Rattle.commands.specs.declared.Name.the-variants as N
-use borrow.Author.Needs.{needs}
 use Rattle.commands.proofs.name_at.Statement.{statement}
 use Rattle.commands.proofs.name_at.Tie as tie
 
@@ -13,34 +13,34 @@ past : (n : ℕ) {p : ℕ} → n ≤ p → (p ≡ n → ⊥) → n + 1 ≤ p
 past n h e = omega arith
 
 returns : tie.Need-returns
-returns c = search needs
+returns c = sym (ap nameAt (c .match .keys1))
 
 returns-2 : tie.Need-returns-2
-returns-2 c = search needs
+returns-2 c = sym (ap nameAt (c .match .keys2))
 
 returns-3 : tie.Need-returns-3
-returns-3 c = search needs
+returns-3 c = sym (ap nameAt (c .match .keys3))
 
 returns-4 : tie.Need-returns-4
-returns-4 c = search needs
+returns-4 c = sym (ap nameAt (c .match .keys4))
 
 returns-5 : tie.Need-returns-5
-returns-5 c = search needs
+returns-5 c = sym (ap nameAt (c .match .keys5))
 
 returns-6 : tie.Need-returns-6
-returns-6 c = search needs
+returns-6 c = sym (ap nameAt (c .match .keys6))
 
 returns-7 : tie.Need-returns-7
-returns-7 c = search needs
+returns-7 c = sym (ap nameAt (c .match .keys7))
 
 returns-8 : tie.Need-returns-8
-returns-8 c = search needs
+returns-8 c = sym (ap nameAt (c .match .keys8))
 
 returns-9 : tie.Need-returns-9
-returns-9 c = search needs
+returns-9 c = sym (ap nameAt (c .match .keys9))
 
 returns-10 : tie.Need-returns-10
-returns-10 c = search needs
+returns-10 c = sym (ap nameAt (c .match .keys10))
 
 returns-11 : tie.Need-returns-11
 returns-11 c =

@@ -25,14 +25,14 @@ reading-floats-requires c κs = search needs
 returns : tie.Need-returns
 returns c =
     let a = c .before .before .before .args in
-    let e : a .place ≡ 0 = omega (arith, c .match .keys1) in
+    let e : a .place ≡ 0 = c .match .keys1 in
     ap (λ n. C.Operation (O.Publish (n .one))) (c .before .naturals .ensures)
     ∙ sym (ap (λ p. asked (nameAt p) (a .line .now)) e)
 
 returns-2 : tie.Need-returns-2
 returns-2 c =
     let a = c .before .before .before .before .args in
-    let e : a .place ≡ 1 = omega (arith, c .before .match .keys2) in
+    let e : a .place ≡ 1 = c .before .match .keys2 in
     let shift = toZ-ofZ (sfits-of {z = c .signed-at .result} (c .signed-at .ok)) ∙ c .signed-at .ensures in
     ap₂ (λ n z. C.Operation (O.Move (n .one) (n .two) z (n .four))) (c .before .before .naturals .ensures) shift
     ∙ sym (ap (λ p. asked (nameAt p) (a .line .now)) e)
@@ -40,7 +40,7 @@ returns-2 c =
 returns-3 : tie.Need-returns-3
 returns-3 c =
     let a = c .before .before .before .before .args in
-    let e : a .place ≡ 2 = omega (arith, c .before .match .keys3) in
+    let e : a .place ≡ 2 = c .before .match .keys3 in
     c .reading .ensures ∙ sym (ap (λ p. asked (nameAt p) (a .line .now)) e)
 
 returns-4 : tie.Need-returns-4
