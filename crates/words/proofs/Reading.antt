@@ -2,6 +2,7 @@
 --   readOn        what the bytes that are left make of the number so far
 --   read-digits   from nothing on they make what the digits say
 --   signless-within   what they say is within the limit
+--   ready-decimal, ready-hexadecimal   the bases
 --   minus-some    a word with a minus has a byte
 use mathlib.Core.Path.{_≡_, refl, sym, ap, _∙_}
 use mathlib.Core.Bool.{Bool, true, false, cond, _&&_}
@@ -10,10 +11,10 @@ use Prim.Native.Nat.{ℕ, _+_, _*_, _-_, _≤_, _<_}
 use native.Mathlib.Nat.{mul-le-mul-left}
 use native.Mathlib.Omega.{arith}
 use borrow.Author.Tests.{leb-true, leb-false, le-leb, lt-leb, lt-ltb, le-ltb}
-use lib.Dec.{leb}
+use lib.Dec.{leb, lit≤}
 use lib.ListN.{length, drop}
-use Rattle.words.specs.Numbers.{digitOf, allDigits, valueOn, digits, signless, hasMinus, said, unsaid, least}
-use Rattle.words.specs.Steps.{withByte}
+use Rattle.words.specs.Numbers.{digitOf, allDigits, valueOn, digits, signless, hasMinus, said, unsaid, least, largest}
+use Rattle.words.specs.Steps.{withByte, Ready}
 use Rattle.words.specs.declared.Number.{Number}
 
 module _ (base limit : ℕ) where
@@ -87,3 +88,10 @@ signless-within w = pick (hasMinus w)
 pub minus-some : (w : List ℕ) → hasMinus w ≡ true → 0 < length w
 minus-some [] e = let z : _≡_ {A = ℕ} 0 1 = cc in omega arith
 minus-some (b ∷ bs) e = omega arith
+
+-- ════ the bases and their limit leave room for a digit
+pub ready-decimal : Ready 10 largest
+ready-decimal = record { some = lit≤ tt; known = lit≤ tt; room = lit≤ tt }
+
+pub ready-hexadecimal : Ready 16 largest
+ready-hexadecimal = record { some = lit≤ tt; known = lit≤ tt; room = lit≤ tt }

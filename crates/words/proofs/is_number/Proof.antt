@@ -2,6 +2,7 @@
 use mathlib.Core.Path.{sym, ap, _∙_}
 use borrow.Author.Needs.{needs}
 use Rattle.words.specs.Numbers.{magnitude, isNumber}
+use Rattle.words.proofs.Reading.{ready-decimal, ready-hexadecimal}
 use Rattle.words.proofs.is_number.Statement.{statement}
 use Rattle.words.proofs.is_number.Tie as tie
 
@@ -9,7 +10,7 @@ enum-told : tie.Need-enum-told
 enum-told c = search needs
 
 digits-at-requires : tie.Need-digits-at-requires
-digits-at-requires c κs = search needs
+digits-at-requires c κs = ready-decimal
 
 enum-told-2 : tie.Need-enum-told-2
 enum-told-2 c = search needs
@@ -21,7 +22,7 @@ enum-told-3 : tie.Need-enum-told-3
 enum-told-3 c = search needs
 
 digits-at-requires-2 : tie.Need-digits-at-requires-2
-digits-at-requires-2 c κs = search needs
+digits-at-requires-2 c κs = ready-hexadecimal
 
 returns : tie.Need-returns
 unfolding magnitude
