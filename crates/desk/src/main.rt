@@ -3,9 +3,9 @@ use layout::TABLE;
 use libc::STDIN_FILENO;
 use libc::STDOUT_FILENO;
 use spaces::ALL;
-use spaces::LINE;
 use spaces::LONGEST;
 use spaces::SPACE;
+use texts::LINE;
 use texts::OUT;
 use texts::least;
 
@@ -39,7 +39,7 @@ fn take_byte(
 ) -> Told {
     if byte != b'\n' {
         return Told {
-            held: spaces::hold(byte, line, told.held),
+            held: texts::hold(byte, line, told.held),
             at: told.at,
         };
     }

@@ -9,22 +9,18 @@ mod reasons;
 mod rooms;
 mod uses;
 
-ghost use mathlib.Core.Path.{_≡_};
 ghost use Prim.Native.Nat.{_≤_};
-ghost use Rattle.spaces.specs.Held.{heldAfter, lineAfter};
 ghost use Rattle.texts.specs.Room.{room};
 use commands::Command;
 use commands::command_of;
 use keeping::keep;
 use operations::operate;
 use reasons::no_line;
+use texts::LINE;
 use texts::OUT;
 use texts::put_byte;
 use texts::put_text;
 use uses::put_misused;
-
-// The most bytes of a line.
-pub const LINE: usize = 256;
 
 // The numbers of a space with its length, and those of all spaces.
 pub const SPACE: usize = rooms::SPACE;
@@ -43,18 +39,6 @@ fn obey(line: &[u8], spaces: &mut [i64; ALL], out: &mut [u8; OUT], at: usize) ->
         Command::Operation { operation } => operate(operation, spaces, out, at),
         Command::Keeping { keeping } => keep(keeping, spaces, out, at),
     }
-}
-
-// One byte more of a line; gives how many are held, one more than there is room for where the line is too long.
-pub fn hold(byte: u8, line: &mut [u8; LINE], held: usize) -> usize
-    ensures { λ r. ⌜ r ≡ heldAfter held ⌝ }
-    ensures { λ r. ⌜ now (line .exit) ≡ lineAfter (now (line .entry)) held byte ⌝ }
-{
-    if held >= LINE {
-        return LINE + 1;
-    }
-    line[held] = byte;
-    held + 1
 }
 
 fn answered(

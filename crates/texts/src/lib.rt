@@ -1,12 +1,30 @@
-// The parts of an answer, each written from a place on; each gives the place behind it. What has no room is cut off.
-ghost use Prim.Native.Nat.{_≤_};
+// Texts in rooms of a fixed size: the bytes of a line as they come, and the parts of an answer, each written from a place on. Each part
+// gives the place behind it, and what has no room is cut off.
+ghost use mathlib.Core.Path.{_≡_};
+ghost use Prim.Native.Nat.{_≤_, min};
+ghost use Rattle.texts.specs.Held.{heldAfter, lineAfter};
 ghost use Rattle.texts.specs.Room.{room};
 
 // The room for answers.
 pub const OUT: usize = 65536;
 
+// The most bytes of a line.
+pub const LINE: usize = 256;
+
+// One byte more of a line; gives how many are held, one more than there is room for where the line is too long.
+pub fn hold(byte: u8, line: &mut [u8; LINE], held: usize) -> usize
+    ensures { λ r. ⌜ r ≡ heldAfter held ⌝ }
+    ensures { λ r. ⌜ now (line .exit) ≡ lineAfter (now (line .entry)) held byte ⌝ }
+{
+    if held >= LINE {
+        return LINE + 1;
+    }
+    line[held] = byte;
+    held + 1
+}
+
 pub fn least(a: usize, b: usize) -> usize
-    ensures { λ r. ⌜ (r ≤ a) × (r ≤ b) ⌝ }
+    ensures { λ r. ⌜ r ≡ min a b ⌝ }
 {
     if a < b {
         return a;

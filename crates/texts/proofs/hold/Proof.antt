@@ -1,15 +1,15 @@
--- `spaces::hold` meets its contract: the test that the code makes is the one of the definitions. Assumes nothing.
+-- `texts::hold` meets its contract: the test that the code makes is the one of the definitions. Assumes nothing.
 use mathlib.Core.Bool.{Bool, cond}
 use mathlib.Core.List.{List}
 use mathlib.Core.Path.{_≡_, ap, sym}
 use Prim.Native.Nat.{ℕ, _+_}
 use lib.Dec.{leb}
 use lib.ListN.{set}
-use Rattle.spaces.specs.Held.{longestLine, heldAfter, lineAfter}
+use Rattle.texts.specs.Held.{longestLine, heldAfter, lineAfter}
 use borrow.Author.Needs.{needs}
 use borrow.Author.Tests.{le-leb, lt-leb}
-use Rattle.spaces.proofs.hold.Statement.{statement}
-use Rattle.spaces.proofs.hold.Tie as tie
+use Rattle.texts.proofs.hold.Statement.{statement}
+use Rattle.texts.proofs.hold.Tie as tie
 
 -- what is said of the line too long and of any other, by the test that the code makes
 said : (line : List ℕ) (held byte : ℕ) {b : Bool} → leb longestLine held ≡ b → (cond b (longestLine + 1) (held + 1) ≡ heldAfter held) × (cond b line (set line held byte) ≡ lineAfter line held byte)
