@@ -71,11 +71,11 @@ fn move_part(
     ensures { λ shift r. ⌜ now (out .exit) ≡ movedGroup variable shift (grouped u v (now (from .entry))) .numbers ⌝ }
 {
     if u == variable {
-        polynomials::move_group(from, out, Variable::First, rows);
+        shifting::move_group(from, out, Variable::First, rows);
         return;
     }
     if v == variable {
-        polynomials::move_group(from, out, Variable::Second, rows);
+        shifting::move_group(from, out, Variable::Second, rows);
         return;
     }
     copy(from, out);

@@ -25,8 +25,8 @@ use layout::refusals::WRONG_OUTPUT;
 use layout::refusals::WRONG_TABLE;
 use limits::Limits;
 use limits::MOST;
-use polynomials::multiplied_out;
 use quick::within_cap;
+use shifting::multiplied_out;
 use tables::soundness::soundness;
 
 // No shift from one limit in range to another is longer.

@@ -29,6 +29,7 @@ use Rattle.answers.specs.declared.Reading.{Reading}
 use Rattle.answers.specs.declared.Fed.{Fed}
 use Rattle.whole.proofs as whole
 use Rattle.polynomials.proofs as polynomials
+use Rattle.shifting.proofs as shifting
 use Rattle.limits.proofs as limits
 use Rattle.weights.proofs as weights
 use Rattle.quick.proofs as quick
@@ -104,16 +105,17 @@ powers-previous-tight κs a o p = tight o p (search (same, same-powers))
 pub powers-of-tight : Tight polynomials.powers_of.ended polynomials.powers_of.Reads.Post
 powers-of-tight κs a o p = tight o p (search same)
 
-pub multiplied-out-tight : Tight polynomials.multiplied_out.ended polynomials.multiplied_out.Reads.Post
-multiplied-out-tight κs a o p = tight o p (search same)
-
 pub value-at-tight : Tight polynomials.value_at.ended polynomials.value_at.Reads.Post
 value-at-tight κs a o p = tight o p (search same)
 
 pub add-term-tight : Tight polynomials.add_term.ended polynomials.add_term.Reads.Post
 add-term-tight κs a o p = tight o p (search same)
 
-pub move-group-tight : Tight polynomials.move_group.ended polynomials.move_group.Reads.Post
+-- ════ shifting
+pub multiplied-out-tight : Tight shifting.multiplied_out.ended shifting.multiplied_out.Reads.Post
+multiplied-out-tight κs a o p = tight o p (search same)
+
+pub move-group-tight : Tight shifting.move_group.ended shifting.move_group.Reads.Post
 move-group-tight κs a o p = tight o p (search same)
 
 -- ════ limits

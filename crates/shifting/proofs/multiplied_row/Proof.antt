@@ -1,4 +1,4 @@
--- `polynomials::multiplied_row` meets its contract. The loop's invariant is `Turn`: the places from p on hold what is to stand there, the others the
+-- `shifting::multiplied_row` meets its contract. The loop's invariant is `Turn`: the places from p on hold what is to stand there, the others the
 -- binomial numbers. Assumes nothing.
 use mathlib.Core.Path.{_≡_, refl, sym, _∙_, ap, subst}
 use mathlib.Core.List.{List, []}
@@ -16,13 +16,13 @@ use mir.Facts.{toZ-ofZ}
 use Rattle.whole.proofs.Ring.{*ℤ-unit, pow-zero, pow-suc}
 use Rattle.whole.proofs.Magnitudes.{within, within-*, within-pow}
 use Rattle.whole.proofs.Machine.{within-sfits, op-bits, op-back}
 use Rattle.polynomials.specs.Numbers.{ints}
 use Rattle.polynomials.specs.Sum.{listed}
 use Rattle.polynomials.specs.Binomial.{choose, multipliedOut}
 use Rattle.polynomials.specs.Limits.{farthest, highestDegree}
 use Rattle.polynomials.proofs.Listed.{length-listed, getD-listed, listed-is}
-use Rattle.polynomials.proofs.multiplied_row.Statement.{statement}
-use Rattle.polynomials.proofs.multiplied_row.Tie as tie
+use Rattle.shifting.proofs.multiplied_row.Statement.{statement}
+use Rattle.shifting.proofs.multiplied_row.Tie as tie
 
 -- row k of the binomial numbers
 binomials : ℕ → List ℤ

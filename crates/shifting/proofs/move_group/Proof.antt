@@ -1,4 +1,4 @@
--- `polynomials::move_group` meets its contract. The loop's invariant: `w` are the powers at the place `at`, and the places before it hold the moved numbers.
+-- `shifting::move_group` meets its contract. The loop's invariant: `w` are the powers at the place `at`, and the places before it hold the moved numbers.
 -- Assumes nothing.
 use mathlib.Core.Path.{_≡_, refl, sym, _∙_, ap}
 use mathlib.Core.List.{List}
@@ -10,18 +10,18 @@ use lib.ListN.{length, take, length-set}
 use mir.Syntax.{w64}
 use mir.Val.{toZ, ofZ}
 use mir.Facts.{toZ-ofZ}
 use Rattle.polynomials.specs.Numbers.{ints}
 use Rattle.polynomials.specs.Sum.{listed}
 use Rattle.polynomials.specs.Order.{powers, place}
 use Rattle.polynomials.specs.Binomial.{shiftIn}
 use Rattle.polynomials.specs.Group.{movedNumber, replaced}
 use Rattle.polynomials.specs.declared.Powers.{Powers}
 use Rattle.polynomials.specs.declared.Variable.{Variable}
 use Rattle.polynomials.proofs.Places.{place-powers, powers-more}
 use Rattle.polynomials.proofs.Listed.{listed-more, listed-all}
 use Rattle.polynomials.proofs.PowerRows.{few-powers}
-use Rattle.polynomials.proofs.move_group.Statement.{statement}
-use Rattle.polynomials.proofs.move_group.Tie as tie
+use Rattle.shifting.proofs.move_group.Statement.{statement}
+use Rattle.shifting.proofs.move_group.Tie as tie
 
 -- what is to stand at a place
 movedAt : Variable → ℤ → List ℤ → ℕ → ℤ

@@ -1,4 +1,4 @@
--- `polynomials::multiplied_out` meets its contract, row by row. Assumes nothing.
+-- `shifting::multiplied_out` meets its contract, row by row. Assumes nothing.
 use mathlib.Core.Path.{sym, _∙_, ap, subst}
 use mathlib.Core.List.{[], _∷_}
 use Prim.Native.Nat.{_≤_}
@@ -7,11 +7,11 @@ use lib.IntN.{natAbs}
 use mir.Syntax.{w64}
 use mir.Val.{toZ, ofZ}
 use mir.Facts.{toZ-ofZ}
 use Rattle.polynomials.specs.Sum.{listed}
 use Rattle.polynomials.specs.Binomial.{multipliedRows}
 use Rattle.polynomials.specs.Limits.{farthest}
-use Rattle.polynomials.proofs.multiplied_out.Statement.{statement}
-use Rattle.polynomials.proofs.multiplied_out.Tie as tie
+use Rattle.shifting.proofs.multiplied_out.Statement.{statement}
+use Rattle.shifting.proofs.multiplied_out.Tie as tie
 
 -- the shift, as the code holds it
 near : (c : tie.Start) → natAbs (toZ w64 (ofZ w64 (c .args .s))) ≤ farthest
