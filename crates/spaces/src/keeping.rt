@@ -33,6 +33,7 @@ fn change_length(
     if count > ROOM as u64 {
         return no_room(out, at);
     }
+    // Numbers drawn with a size of 0 are 0.
     let start = start_of(space);
     let kept = start + length_of(space, spaces);
     draw(spaces, kept, start + ROOM, 1, 0, 0);

@@ -20,7 +20,7 @@ use texts::LINE;
 use texts::OUT;
 use texts::put_byte;
 use texts::put_text;
-use uses::put_misused;
+use uses::put_use;
 
 // The numbers of a space with its length, and those of all spaces.
 pub const SPACE: usize = rooms::SPACE;
@@ -35,7 +35,7 @@ fn obey(line: &[u8], spaces: &mut [i64; ALL], out: &mut [u8; OUT], at: usize) ->
     match command {
         Command::Blank => at,
         Command::Comment => put_text(line, out, at),
-        Command::Misused { name } => put_misused(name, out, at),
+        Command::Misused { name } => put_use(name, out, at),
         Command::Operation { operation } => operate(operation, spaces, out, at),
         Command::Keeping { keeping } => keep(keeping, spaces, out, at),
     }
