@@ -3,8 +3,8 @@ use mathlib.Core.Path.{_≡_, refl}
 use mathlib.Core.List.{[], _∷_, map}
 use lib.IntN.{pos, negsuc}
 use Rattle.words.specs.Words.{words}
-use Rattle.words.specs.Numbers.{magnitude}
-use Rattle.commands.specs.Text.{text}
+use Rattle.numbers.specs.Numbers.{magnitude}
+use Rattle.words.specs.Text.{text}
 use Rattle.commands.specs.Commands.{names, kinds, command}
 use Rattle.commands.specs.declared.Name.the-variants as N
 use Rattle.commands.specs.declared.Operation.the-variants as O

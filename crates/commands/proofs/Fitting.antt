@@ -11,9 +11,9 @@ use lib.Dec.{ltb}
 use lib.ListN.{length, drop, getD, drop-of-length-le, List·getD-eq-default}
 use lib.Seq.{drop-cons}
 use Rattle.words.specs.Words.{same}
-use Rattle.words.specs.Numbers.{magnitude}
-use Rattle.words.specs.declared.Kind.{Kind}
-use Rattle.words.specs.declared.Kind.the-variants.{Natural, Signed, Bits}
+use Rattle.numbers.specs.Numbers.{magnitude}
+use Rattle.numbers.specs.declared.Kind.{Kind}
+use Rattle.numbers.specs.declared.Kind.the-variants.{Natural, Signed, Bits}
 use Rattle.commands.specs.Commands.{place, kindOf, fit}
 
 drop-more : (ws : List (List ℕ)) (k : ℕ) → k < length ws → drop k ws ≡ getD ws k [] ∷ drop (k + 1) ws

@@ -5,10 +5,10 @@ use Prim.Native.Nat.{ℕ, suc}
 use lib.Dec.{eqb, ltb}
 use lib.ListN.{length, getD, drop}
 use Rattle.words.specs.Words.{words, wordAt, same}
-use Rattle.words.specs.Numbers.{magnitude, naturalAt, signedAt, bitsAt}
-use Rattle.words.specs.declared.Kind.{Kind}
-use Rattle.words.specs.declared.Kind.the-variants.{Natural, Signed, Bits}
-use Rattle.commands.specs.Text.{text}
+use Rattle.numbers.specs.Numbers.{magnitude, naturalAt, signedAt, bitsAt}
+use Rattle.numbers.specs.declared.Kind.{Kind}
+use Rattle.numbers.specs.declared.Kind.the-variants.{Natural, Signed, Bits}
+use Rattle.words.specs.Text.{text}
 use Rattle.commands.specs.declared.Name.{Name}
 use Rattle.commands.specs.declared.Name.the-variants as N
 use Rattle.commands.specs.declared.Operation.{Operation}

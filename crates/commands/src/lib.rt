@@ -5,13 +5,13 @@ ghost use lib.ListN.{length, drop};
 ghost use lib.Seq.{slice};
 ghost use Rattle.words.specs.Words.{words, wordAt};
 ghost use Rattle.commands.specs.Commands.{place, placeOf, nameAt, kindOf, fit, fits, naturals, asked, startsWith, command};
-use words::Kind;
-use words::bits_at;
+use numbers::Kind;
+use numbers::bits_at;
+use numbers::is_number;
+use numbers::natural_at;
+use numbers::signed_at;
 use words::has_word;
-use words::is_number;
-use words::natural_at;
 use words::same_word;
-use words::signed_at;
 use words::word_at;
 
 // The commands by their names, and what is none.

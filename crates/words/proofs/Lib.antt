@@ -1,4 +1,3 @@
 pub mod Controls
-pub mod Reading
 pub mod Runs
 pub mod Slices

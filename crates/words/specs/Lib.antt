@@ -1,3 +1,3 @@
-pub mod Numbers
 pub mod Steps
+pub mod Text
 pub mod Words

@@ -1,14 +1,12 @@
--- What the code finds on its way to a word and to its number. That it leads to what `Words` and `Numbers` say is shown in `proofs/`.
+-- What the code finds on its way to a word. That it leads to what `Words` says is shown in `proofs/`.
 use mathlib.Core.Path.{_≡_}
 use mathlib.Core.Bool.{Bool, cond, Bool·beq}
 use mathlib.Core.List.{List, [], _∷_}
-use Prim.Native.Nat.{ℕ, _+_, _*_, _≤_}
-use lib.Dec.{leb, eqb}
+use Prim.Native.Nat.{ℕ, _≤_}
+use lib.Dec.{eqb}
 use lib.ListN.{length, drop}
 use Rattle.words.specs.Words.{words, wordAt, IsAt}
-use Rattle.words.specs.Numbers.{digitOf, said, unsaid}
 use Rattle.words.specs.declared.Word.{Word}
-use Rattle.words.specs.declared.Number.{Number}
 
 -- the bytes in front that are spaces, or that are none
 abbrev pub run : Bool → List ℕ → List ℕ
@@ -24,18 +22,3 @@ pub record First (line : List ℕ) (from : ℕ) (word : Word) : Type 0 where
 pub record Passed (line : List ℕ) (count place : ℕ) : Type 0 where
   pub within : place ≤ length line
   pub later : words (drop place line) ≡ drop count (words line)
-
--- a base and a limit that leave room for a digit
-pub record Ready (base limit : ℕ) : Type 0 where
-  pub some : 1 ≤ base
-  pub known : base ≤ 16
-  pub room : 16 ≤ limit
-
--- one digit more
-abbrev pub extended : ℕ → ℕ → ℕ → ℕ → Number
-extended base limit value digit =
-    cond (leb base digit) unsaid (cond (leb (value * base + digit) limit) (said (value * base + digit)) unsaid)
-
--- one byte more
-abbrev pub withByte : ℕ → ℕ → Number → ℕ → Number
-withByte base limit past b = cond (past .said) (extended base limit (past .value) (digitOf b)) past

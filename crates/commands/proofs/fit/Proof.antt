@@ -11,7 +11,7 @@ use borrow.Author.Tests.{not-true, not-false}
 use lib.ListN.{drop, getD, take, drop-of-length-le}
 use lib.Seq.{slice, slice-cons, length-take-le}
 use Rattle.words.specs.Words.{words}
-use Rattle.words.specs.Numbers.{isNumber}
+use Rattle.numbers.specs.Numbers.{isNumber}
 use Rattle.commands.specs.Commands.{fit}
 use Rattle.commands.proofs.Fitting.{fit-more, fit-end}
 use Rattle.commands.proofs.fit.Statement.{statement}

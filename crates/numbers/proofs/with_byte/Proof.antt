@@ -1,4 +1,4 @@
--- `words::with_byte` meets its contract: value · base + digit is within the limit exactly where value ≤ (limit - digit) / base.
+-- `numbers::with_byte` meets its contract: value · base + digit is within the limit exactly where value ≤ (limit - digit) / base.
 -- Assumes nothing.
 use mathlib.Core.Path.{_≡_, refl, sym, ap, _∙_}
 use mathlib.Core.Bool.{Bool, true, false, cond}
@@ -8,11 +8,11 @@ use native.Mathlib.Omega.{arith}
 use borrow.Author.Needs.{needs}
 use borrow.Author.Tests.{le-leb, lt-leb, not-true, not-false}
 use lib.Dec.{leb}
-use Rattle.words.specs.Numbers.{digitOf, said, unsaid}
-use Rattle.words.specs.Steps.{withByte}
-use Rattle.words.specs.declared.Number.{Number}
-use Rattle.words.proofs.with_byte.Statement.{statement}
-use Rattle.words.proofs.with_byte.Tie as tie
+use Rattle.numbers.specs.Numbers.{digitOf, said, unsaid}
+use Rattle.numbers.specs.Steps.{withByte}
+use Rattle.numbers.specs.declared.Number.{Number}
+use Rattle.numbers.proofs.with_byte.Statement.{statement}
+use Rattle.numbers.proofs.with_byte.Tie as tie
 
 -- what the three tests choose
 abbrev chosen : ℕ → Number → ℕ → Bool → Bool → Bool → Number

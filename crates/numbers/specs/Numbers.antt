@@ -5,10 +5,10 @@ use Prim.Native.Nat.{ℕ, _+_, _*_, _-_}
 use lib.Dec.{leb, ltb, eqb}
 use lib.IntN.{ℤ, pos, negℤ}
 use lib.ListN.{drop}
 use Rattle.words.specs.Words.{wordAt}
-use Rattle.words.specs.declared.Number.{Number}
-use Rattle.words.specs.declared.Kind.{Kind}
-use Rattle.words.specs.declared.Kind.the-variants.{Natural, Signed, Bits}
+use Rattle.numbers.specs.declared.Number.{Number}
+use Rattle.numbers.specs.declared.Kind.{Kind}
+use Rattle.numbers.specs.declared.Kind.the-variants.{Natural, Signed, Bits}
 
 -- ════ digits: 0 to 9 and a to f, of which a base has those below it
 abbrev pub digitOf : ℕ → ℕ

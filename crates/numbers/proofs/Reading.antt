@@ -13,9 +13,9 @@ use native.Mathlib.Omega.{arith}
 use borrow.Author.Tests.{leb-true, leb-false, le-leb, lt-leb, lt-ltb, le-ltb}
 use lib.Dec.{leb, lit≤}
 use lib.ListN.{length, drop}
-use Rattle.words.specs.Numbers.{digitOf, allDigits, valueOn, digits, signless, hasMinus, said, unsaid, least, largest}
-use Rattle.words.specs.Steps.{withByte, Ready}
-use Rattle.words.specs.declared.Number.{Number}
+use Rattle.numbers.specs.Numbers.{digitOf, allDigits, valueOn, digits, signless, hasMinus, said, unsaid, least, largest}
+use Rattle.numbers.specs.Steps.{withByte, Ready}
+use Rattle.numbers.specs.declared.Number.{Number}
 
 module _ (base limit : ℕ) where
   abbrev pub readOn : Number → List ℕ → Number

@@ -1,10 +1,10 @@
--- `words::is_number` meets its contract: by the cases of the kind. Assumes nothing.
+-- `numbers::is_number` meets its contract: by the cases of the kind. Assumes nothing.
 use mathlib.Core.Path.{sym, ap, _∙_}
 use borrow.Author.Needs.{needs}
-use Rattle.words.specs.Numbers.{magnitude, isNumber}
-use Rattle.words.proofs.Reading.{ready-decimal, ready-hexadecimal}
-use Rattle.words.proofs.is_number.Statement.{statement}
-use Rattle.words.proofs.is_number.Tie as tie
+use Rattle.numbers.specs.Numbers.{magnitude, isNumber}
+use Rattle.numbers.proofs.Reading.{ready-decimal, ready-hexadecimal}
+use Rattle.numbers.proofs.is_number.Statement.{statement}
+use Rattle.numbers.proofs.is_number.Tie as tie
 
 enum-told : tie.Need-enum-told
 enum-told c = search needs

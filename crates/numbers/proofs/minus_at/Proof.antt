@@ -1,11 +1,11 @@
--- `words::minus_at` meets its contract: an empty word has no minus, and another has its first byte.
+-- `numbers::minus_at` meets its contract: an empty word has no minus, and another has its first byte.
 -- Assumes nothing.
 use mathlib.Core.Path.{sym, ap, _∙_}
 use borrow.Author.Needs.{needs}
-use Rattle.words.specs.Numbers.{hasMinus}
+use Rattle.numbers.specs.Numbers.{hasMinus}
 use Rattle.words.proofs.Slices.{slice-none, slice-more}
-use Rattle.words.proofs.minus_at.Statement.{statement}
-use Rattle.words.proofs.minus_at.Tie as tie
+use Rattle.numbers.proofs.minus_at.Statement.{statement}
+use Rattle.numbers.proofs.minus_at.Tie as tie
 
 word-at-requires : tie.Need-word-at-requires
 word-at-requires c κs = search needs

@@ -1,15 +1,15 @@
--- `words::digits_in` meets its contract. The loop's invariant: the bytes that are left make of the number so far what the digits say.
+-- `numbers::digits_in` meets its contract. The loop's invariant: the bytes that are left make of the number so far what the digits say.
 -- Assumes nothing.
 use mathlib.Core.Path.{_≡_, sym, ap, _∙_}
 use Prim.Native.Nat.{_+_, _-_}
 use native.Mathlib.Omega.{arith}
 use borrow.Author.Needs.{needs}
 use lib.Seq.{slice, length-slice}
-use Rattle.words.specs.Numbers.{digits}
+use Rattle.numbers.specs.Numbers.{digits}
 use Rattle.words.proofs.Slices.{slice-none, slice-more}
-use Rattle.words.proofs.Reading.{readOn, read-digits}
-use Rattle.words.proofs.digits_in.Statement.{statement}
-use Rattle.words.proofs.digits_in.Tie as tie
+use Rattle.numbers.proofs.Reading.{readOn, read-digits}
+use Rattle.numbers.proofs.digits_in.Statement.{statement}
+use Rattle.numbers.proofs.digits_in.Tie as tie
 
 abbrev Inv-loop : tie.InvT-loop
 Inv-loop line at₀ end base limit past₀ at past = readOn base limit past (slice at end line) ≡ digits base limit (slice at₀ end line)

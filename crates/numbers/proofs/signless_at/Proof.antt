@@ -1,4 +1,4 @@
--- `words::signless_at` meets its contract: it follows the test of the definition.
+-- `numbers::signless_at` meets its contract: it follows the test of the definition.
 -- Assumes nothing.
 use mathlib.Core.Path.{_≡_, sym, ap, _∙_}
 use mathlib.Core.Bool.{Bool, true, false, cond}
@@ -8,11 +8,11 @@ use native.Mathlib.Omega.{arith}
 use borrow.Author.Needs.{needs}
 use lib.ListN.{length, take, drop}
 use lib.Seq.{slice, length-slice, drop-drop}
 use Rattle.words.specs.Words.{wordAt}
-use Rattle.words.specs.Numbers.{digits, least, hasMinus, signless}
-use Rattle.words.proofs.Reading.{minus-some}
-use Rattle.words.proofs.signless_at.Statement.{statement}
-use Rattle.words.proofs.signless_at.Tie as tie
+use Rattle.numbers.specs.Numbers.{digits, least, hasMinus, signless}
+use Rattle.numbers.proofs.Reading.{minus-some}
+use Rattle.numbers.proofs.signless_at.Statement.{statement}
+use Rattle.numbers.proofs.signless_at.Tie as tie
 
 word-at-requires : tie.Need-word-at-requires
 word-at-requires c κs = search needs

@@ -1,4 +1,4 @@
--- `words::signed_at` meets its contract: a magnitude below 2^63 fits with either sign, and 2^63 is that of the least number.
+-- `numbers::signed_at` meets its contract: a magnitude below 2^63 fits with either sign, and 2^63 is that of the least number.
 -- Assumes nothing.
 use mathlib.Core.Path.{_≡_, sym, ap, _∙_, subst, subst⁻¹}
 use mathlib.Core.Bool.{Bool, true, false, cond}
@@ -11,11 +11,11 @@ use lib.IntN.{pos, negℤ, _-ℤ_, +ℤ-idl}
 use mir.Syntax.{w64}
 use mir.Val.{SFits, toZ, ofZ}
 use mir.Facts.{toZ-ofZ, toZ-pos}
 use Rattle.words.specs.Words.{wordAt}
-use Rattle.words.specs.Numbers.{magnitude, signed, signless, signedOf, least}
-use Rattle.words.proofs.Reading.{signless-within}
-use Rattle.words.proofs.signed_at.Statement.{statement}
-use Rattle.words.proofs.signed_at.Tie as tie
+use Rattle.numbers.specs.Numbers.{magnitude, signed, signless, signedOf, least}
+use Rattle.numbers.proofs.Reading.{signless-within}
+use Rattle.numbers.proofs.signed_at.Statement.{statement}
+use Rattle.numbers.proofs.signed_at.Tie as tie
 
 plain-read : (n : ℕ) → n < least → toZ w64 n ≡ pos n
 plain-read n h = toZ-pos w64 {n = n} (omega arith)

@@ -1,9 +1,9 @@
--- `words::digit_of` meets its contract: each way out follows the tests of the definition.
+-- `numbers::digit_of` meets its contract: each way out follows the tests of the definition.
 -- Assumes nothing.
 use borrow.Author.Tests.{lt-ltb, le-ltb, le-leb, lt-leb}
 use borrow.Author.Needs.{needs}
-use Rattle.words.proofs.digit_of.Statement.{statement}
-use Rattle.words.proofs.digit_of.Tie as tie
+use Rattle.numbers.proofs.digit_of.Statement.{statement}
+use Rattle.numbers.proofs.digit_of.Tie as tie
 
 returns : tie.Need-returns
 returns c = simp (lt-ltb _ _ (c .if1 .taken))

@@ -1,9 +1,9 @@
--- `words::digits_at` meets its contract: the part is the word. Assumes nothing.
+-- `numbers::digits_at` meets its contract: the part is the word. Assumes nothing.
 use mathlib.Core.Path.{ap, _∙_}
 use borrow.Author.Needs.{needs}
-use Rattle.words.specs.Numbers.{digits, largest}
-use Rattle.words.proofs.digits_at.Statement.{statement}
-use Rattle.words.proofs.digits_at.Tie as tie
+use Rattle.numbers.specs.Numbers.{digits, largest}
+use Rattle.numbers.proofs.digits_at.Statement.{statement}
+use Rattle.numbers.proofs.digits_at.Tie as tie
 
 word-at-requires : tie.Need-word-at-requires
 word-at-requires c κs = search needs
