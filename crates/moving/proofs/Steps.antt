@@ -1,7 +1,6 @@
 -- What the code meets when it asks whether the datum of a variable may be moved.
 --   moved-taken           the limits taken from a table move as the table's
 --   move-unsound          the refusal of an unsound table is the move's
---   past-low, past-high   a shift past the longest either way is longer
 --   longer-listed         listed reaches with one of them longer are the longer reaches, listed
 --   move-far              a move by more than the longest shift takes a limit out of its range
 --   lengthened            the moved reaches can be made longer by the size of the shift
@@ -14,12 +13,9 @@ use native.Mathlib.Nat as N
 use native.Mathlib.Omega.{arith}
 use borrow.Author.Tests.{eqb-true, eqb-false}
 use lib.Dec.{eqb}
-use lib.IntN.{ℤ, pos, negℤ, natAbs, _+ℤ_}
+use lib.IntN.{ℤ, pos, natAbs, _+ℤ_}
 use lib.ListN.{length, getD, set, length-set}
 use lib.Seq.{getD-set-same, getD-set-other}
-use lib.Signed.{_<ℤ_}
-use Rattle.whole.proofs.Magnitudes.{natAbs-is}
-use Rattle.whole.proofs.Order.{lt-out}
 use Rattle.polynomials.specs.Groups.{longer}
 use Rattle.polynomials.specs.Limits.{farthest}
 use Rattle.polynomials.proofs.Listed.{length-listed, listed-is}
@@ -46,12 +42,6 @@ module _ (t : List ℤ) (i : ℕ) (s : ℤ) (out : List ℤ) (a : length t ≡ t
   move-unsound n e h =
       let number : moveNumber cumulus t i s out ≡ n = move-asked cumulus t i s out a b v ∙ first-apart (unsound t) _ (λ z. h (e ∙ z)) ∙ sym e in
       (sym number, sym (move-kept cumulus t i s out number (positive h)))
-
-pub past-low : {s : ℤ} → s <ℤ negℤ (pos longestShift) → longestShift < natAbs s
-past-low {s} h = omega (arith, lt-out h, natAbs-is s)
-
-pub past-high : {s : ℤ} → pos longestShift <ℤ s → longestShift < natAbs s
-past-high {s} h = omega (arith, lt-out h, natAbs-is s)
 
 not-so : {b : Bool} → (b ≡ true → ⊥) → b ≡ false
 not-so {b = true} h = absurd (h refl)

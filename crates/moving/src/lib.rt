@@ -30,7 +30,7 @@ use shifting::multiplied_out;
 use tables::soundness::soundness;
 
 // No shift from one limit in range to another is longer.
-const LONGEST: i64 = MOST + MOST;
+const LONGEST: u64 = (MOST + MOST) as u64;
 
 // The reaches with that of one variable longer by the size of the shift.
 fn longer(reaches: [i64; VARIABLES], variable: usize, shift: i64) -> [i64; VARIABLES]
@@ -63,10 +63,7 @@ fn refusal(table: &[i64], variable: usize, shift: i64) -> u64
     requires { ⌜ (length (now table) ≡ tableLength cumulus) × ((variable < cumulus .variables) × (good cumulus (now table) ≡ true)) ⌝ }
     ensures { λ r. ⌜ r ≡ first ((limitPast when not (allInRange cumulus (movedLimits cumulus variable shift (now (table .entry))))) ∷ (moveTooHeavy when not (moveLight cumulus variable shift (now (table .entry)))) ∷ []) ⌝ }
 {
-    if shift < -LONGEST {
-        return LIMIT_PAST;
-    }
-    if shift > LONGEST {
+    if whole::magnitude(shift) > LONGEST {
         return LIMIT_PAST;
     }
     let limits = Limits::of(table).moved(variable, shift);
@@ -75,10 +72,10 @@ fn refusal(table: &[i64], variable: usize, shift: i64) -> u64
     }
     let low = longer(limits.reaches(0), variable, shift);
     let high = longer(limits.reaches(1), variable, shift);
-    if !within_cap(table, low, high) {
-        return MOVE_TOO_HEAVY;
+    if within_cap(table, low, high) {
+        return DONE;
     }
-    DONE
+    MOVE_TOO_HEAVY
 }
 
 // The moved table, written into `out`: the limits, then each block into the part that belongs to it.

@@ -5,14 +5,11 @@ use mathlib.Core.Bool.{true, false}
 use mathlib.Core.List.{List, []}
 use Prim.Native.Nat.{ℕ, _≤_, _<_}
 use native.Mathlib.Omega.{arith}
-use borrow.Author.Needs.{needs}
 use borrow.Author.Tests.{not-true, not-false}
-use lib.IntN.{ℤ, pos, negℤ, natAbs}
+use lib.IntN.{ℤ, natAbs}
 use mir.Syntax.{w64}
-use mir.Val.{SFits, toZ, ofZ}
+use mir.Val.{toZ, ofZ}
 use mir.Facts.{toZ-ofZ}
-use Rattle.whole.proofs.Machine.{natAbs-sfits, lt-taken, lt-left}
-use Rattle.whole.proofs.Order.{from-two}
 use Rattle.polynomials.specs.Order.{below}
 use Rattle.layout.specs.Shape.{cumulus, kindsLength}
 use Rattle.layout.specs.Limits.{longestShift, allInRange, good}
@@ -24,7 +21,7 @@ use Rattle.layout.proofs.LimitLaws.{good-facts}
 use Rattle.layout.proofs.Refused.{first-skip, first-hit}
 use Rattle.weights.specs.Reaches.{reachesOf, Reaching}
 use Rattle.tables.proofs.Taken.{first-nothing, range-taken, listedReaches, light-listed}
-use Rattle.moving.proofs.Steps.{moved-taken, past-low, past-high, longer-listed, move-far, lengthened, move-reaching}
+use Rattle.moving.proofs.Steps.{moved-taken, longer-listed, move-far, lengthened, move-reaching}
 use Rattle.moving.proofs.refusal.Statement.{statement}
 use Rattle.moving.proofs.refusal.Tie as tie
 
@@ -48,17 +45,12 @@ module _ (c : tie.Start) where
   far : longestShift < natAbs s → allInRange cumulus limits ≡ false
   far = move-far t i s (c .pre .1 .0) (c .pre .1 .1)
 
--- the longest shift, either way
-least-fits : SFits w64 (negℤ (pos longestShift))
-least-fits = natAbs-sfits (negℤ (pos longestShift)) (omega arith)
+-- its size, as it comes back
+size-is : (c : tie.After-magnitude) → c .magnitude .result ≡ natAbs (s (c .before))
+size-is c = c .magnitude .ensures ∙ ap natAbs (shift-is (c .before))
 
-most-fits : SFits w64 (pos longestShift)
-most-fits = natAbs-sfits (pos longestShift) (omega arith)
-
-near : (c : tie.Else2) → natAbs (s (c .before .before)) ≤ longestShift
-near c =
-    let f = c .before .before .fits .shift in
-    from-two (lt-left f least-fits (c .before .if1 .left)) (lt-left most-fits f (c .if2 .left))
+near : (c : tie.Else1) → natAbs (s (c .before .before)) ≤ longestShift
+near c = subst (λ n. n ≤ longestShift) (size-is (c .before)) (c .if1 .left)
 
 -- the moved limits, as they come back
 module _ (c : tie.After-moved) where
@@ -72,7 +64,7 @@ in-range-is : (c : tie.After-in-range) → c .in-range .result ≡ allInRange cu
 in-range-is c = c .in-range .ensures ∙ ap (allInRange cumulus) (moved-is (c .before))
 
 -- they are in range
-module _ (c : tie.Else3) where
+module _ (c : tie.Else2) where
   abbrev there : tie.After-moved
   there = c .before .before
 
@@ -80,7 +72,7 @@ module _ (c : tie.Else3) where
   from = start there
 
   limits-in-range : allInRange cumulus (limits from) ≡ true
-  limits-in-range = sym (in-range-is (c .before)) ∙ not-false _ (c .if3 .left)
+  limits-in-range = sym (in-range-is (c .before)) ∙ not-false _ (c .if2 .left)
 
   in-range : allInRange cumulus (there .moved .result .numbers) ≡ true
   in-range = ap (allInRange cumulus) (moved-is there) ∙ limits-in-range
@@ -99,7 +91,7 @@ high-is : (c : tie.After-reaches2) → c .reaches2 .result ≡ listedReaches (re
 high-is c = c .reaches2 .ensures ∙ ap (λ l. listedReaches (reach l high)) (moved-is (there (c .before .before .before)))
 
 module _ (c : tie.After-longer2) where
-  abbrev inside : tie.Else3
+  abbrev inside : tie.Else2
   inside = c .before .before .before .before
 
   abbrev origin : tie.Start
@@ -117,14 +109,11 @@ light-is c =
     let o = origin d in
     c .within-cap .ensures ∙ (λ j. withinCap cumulus (t o) (reachesOf (longer-low-is d j) (longer-high-is d j))) ∙ light-listed (t o) (moveReach cumulus (i o) (s o) (t o))
 
-sub-if1 : tie.Need-sub-if1
-sub-if1 c = search needs
+magnitude-requires : tie.Need-magnitude-requires
+magnitude-requires c κs = tt
 
 returns : tie.Need-returns
-returns c = sym (first-hit limitPast _ (far (c .before) (past-low (lt-taken (c .before .fits .shift) least-fits (c .if1 .taken)))))
-
-returns-2 : tie.Need-returns-2
-returns-2 c = sym (first-hit limitPast _ (far (c .before .before) (past-high (lt-taken most-fits (c .before .before .fits .shift) (c .if2 .taken)))))
+returns c = sym (first-hit limitPast _ (far (c .before .before) (subst (λ n. longestShift < n) (size-is (c .before)) (c .if1 .taken))))
 
 of-requires : tie.Need-of-requires
 unfolding kindsLength below
@@ -138,8 +127,8 @@ moved-requires c κs =
 in-range-requires : tie.Need-in-range-requires
 in-range-requires c κs = tt
 
-returns-3 : tie.Need-returns-3
-returns-3 c = sym (first-hit limitPast _ (sym (in-range-is (c .before)) ∙ not-true _ (c .if3 .taken)))
+returns-2 : tie.Need-returns-2
+returns-2 c = sym (first-hit limitPast _ (sym (in-range-is (c .before)) ∙ not-true _ (c .if2 .taken)))
 
 reaches-requires : tie.Need-reaches-requires
 reaches-requires c κs = in-range c
@@ -169,29 +158,28 @@ within-cap-requires c κs =
       high = subst Reaching (sym (longer-high-is c)) (move-reaching (t o) (i o) (s o) (variable-in d) (limits-good d) (limits-in-range d) high);
     }
 
+returns-3 : tie.Need-returns-3
+returns-3 c =
+    sym (first-skip limitPast _ (limits-in-range (inside (c .before .before))) ∙ first-skip moveTooHeavy [] (sym (light-is (c .before)) ∙ c .if3 .taken) ∙ first-nothing)
+
 returns-4 : tie.Need-returns-4
 returns-4 c =
-    sym (first-skip limitPast _ (limits-in-range (inside (c .before .before))) ∙ first-hit moveTooHeavy [] (sym (light-is (c .before)) ∙ not-true _ (c .if4 .taken)))
-
-returns-5 : tie.Need-returns-5
-returns-5 c =
-    sym (first-skip limitPast _ (limits-in-range (inside (c .before .before))) ∙ first-skip moveTooHeavy [] (sym (light-is (c .before)) ∙ not-false _ (c .if4 .left)) ∙ first-nothing)
+    sym (first-skip limitPast _ (limits-in-range (inside (c .before .before))) ∙ first-hit moveTooHeavy [] (sym (light-is (c .before)) ∙ c .if3 .left))
 
 pub refusal-spec : {M : Type 1} → statement M
 refusal-spec =
     tie.close
     (tie.spec
-    sub-if1
+    magnitude-requires
     returns
-    returns-2
     of-requires
     moved-requires
     in-range-requires
-    returns-3
+    returns-2
     reaches-requires
     longer-requires
     reaches-requires-2
     longer-requires-2
     within-cap-requires
-    returns-4
-    returns-5)
+    returns-3
+    returns-4)
