@@ -2,7 +2,7 @@
 --   named-not-finite, named-outside      the number of a step that refuses
 --   not-finite-number, none-not-finite, none-outside, past-finite   what the first refusal of the steps tells
 --   back-below, back-above, back-given, back-agreed   the reading handed back with a number
---   unsound-small, door-wrong-table, door-unsound, door-sound   the number
+--   table-small, door-refused, door-sound   the number
 --   zero-refused, value-done, reading-is, refused-answer, done-answer   the answer with it
 use mathlib.Core.Path.{_≡_, refl, sym, _∙_, ap, ap₂}
 use mathlib.Core.Bool.{Bool, true, false, not, cond, _&&_, true≢false}
@@ -11,7 +11,7 @@ use Prim.Native.Nat.{ℕ, _+_, _-_, _≤_, _<_}
 use native.Mathlib.Decide.{decLt}
 use native.Mathlib.Omega.{arith}
 use borrow.Author.Tests.{eq-eqb, ne-eqb, le-leb, lt-leb, lt-ltb, le-ltb}
-use lib.Dec.{leb, ltb}
+use lib.Dec.{eqb, leb, ltb}
 use lib.IntN.{ℤ}
 use lib.ListN.{length}
 use lib.Ieee.{Float}
@@ -19,9 +19,10 @@ use Rattle.layout.specs.Shape.{tableLength, cumulus}
 use Rattle.layout.specs.Limits.{good}
 use Rattle.layout.specs.Sound.{light}
 use Rattle.layout.specs.Refusals.{Refusal, _when_, first, unlessRefused, wrongTable, badLimits, tooHeavy, outside}
-use Rattle.layout.proofs.Refused.{first-skip, first-hit}
+use Rattle.layout.proofs.Refused.{first-skip}
 use Rattle.limits.proofs.Firsts.{first-past, first-none, first-at}
-use Rattle.tables.proofs.Steps.{first-apart, unsound}
+use Rattle.tables.specs.Ready.{tableRefusals, tableNumber}
+use Rattle.tables.proofs.Steps.{first-apart}
 use Rattle.rounding.specs.declared.Step.{Step}
 use Rattle.rounding.specs.declared.Step.the-variants.{Whole, NotFinite, Outside}
 use Rattle.door.specs.Steps.{positiveZero, notFinite, numberOf, handedBack, isNotFinite, isOutside}
@@ -102,29 +103,25 @@ back-agreed s r h n = go (decLt n (outside 0)) (decLt n (outside (cumulus .varia
     go (no a) (no b) = back-above s n (omega arith) ∙ sym (back-above r n (omega arith))
 
 -- ---- the number
-small : (g l : Bool) → first ((badLimits when not g) ∷ (tooHeavy when not l) ∷ []) < outside 0
+small : (w g l : Bool) → first ((wrongTable when not w) ∷ (badLimits when not g) ∷ (tooHeavy when not l) ∷ []) < outside 0
 unfolding first
-small false l = omega arith
-small true false = omega arith
-small true true = omega arith
+small false g l = omega arith
+small true false l = omega arith
+small true true false = omega arith
+small true true true = omega arith
 
-pub unsound-small : (t : List ℤ) → first (unsound t) < outside 0
-unsound-small t = small (good cumulus t) (light cumulus t)
+pub table-small : (t : List ℤ) → tableNumber t < outside 0
+table-small t = small (eqb (length t) (tableLength cumulus)) (good cumulus t) (light cumulus t)
 
 module _ (t : List ℤ) (x : ℕ → Float) where
-  pub door-wrong-table : (length t ≡ tableLength cumulus → ⊥) → doorNumber cumulus t x ≡ wrongTable
+  pub door-refused : (n : ℕ) → n ≡ tableNumber t → (n ≡ 0 → ⊥) → doorNumber cumulus t x ≡ n
   unfolding doorNumber
-  door-wrong-table h = first-hit wrongTable _ (ne-eqb (length t) (tableLength cumulus) h)
+  door-refused n e h = first-apart (tableRefusals t) (notFinites (cumulus .variables) (stepAt t x) ++ outsides (cumulus .variables) (stepAt t x)) (λ z. h (e ∙ z)) ∙ sym e
 
-  module _ (a : length t ≡ tableLength cumulus) where
-    pub door-unsound : (n : ℕ) → n ≡ first (unsound t) → (n ≡ 0 → ⊥) → doorNumber cumulus t x ≡ n
-    unfolding doorNumber
-    door-unsound n e h =
-        first-skip wrongTable _ (eq-eqb (length t) (tableLength cumulus) a) ∙ first-apart (unsound t) (notFinites (cumulus .variables) (stepAt t x) ++ outsides (cumulus .variables) (stepAt t x)) (λ z. h (e ∙ z)) ∙ sym e
-
-    pub door-sound : (good cumulus t ≡ true) × (light cumulus t ≡ true) → doorNumber cumulus t x ≡ first (notFinites (cumulus .variables) (stepAt t x) ++ outsides (cumulus .variables) (stepAt t x))
-    unfolding doorNumber
-    door-sound g = first-skip wrongTable _ (eq-eqb (length t) (tableLength cumulus) a) ∙ first-skip badLimits _ (g .0) ∙ first-skip tooHeavy _ (g .1)
+  pub door-sound : length t ≡ tableLength cumulus → (good cumulus t ≡ true) × (light cumulus t ≡ true)
+      → doorNumber cumulus t x ≡ first (notFinites (cumulus .variables) (stepAt t x) ++ outsides (cumulus .variables) (stepAt t x))
+  unfolding doorNumber
+  door-sound a g = first-skip wrongTable _ (eq-eqb (length t) (tableLength cumulus) a) ∙ first-skip badLimits _ (g .0) ∙ first-skip tooHeavy _ (g .1)
 
   -- ---- the answer
   abbrev value : ℕ → Float

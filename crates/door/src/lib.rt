@@ -13,15 +13,13 @@ ghost use Rattle.rounding.specs.Answer.{floatOf};
 ghost use Rattle.blocks.specs.Ready.{Valued};
 ghost use Rattle.door.specs.Steps.{positiveZero, wholeIn, stepsOf};
 ghost use Rattle.door.specs.Door.{floats, stepAt, notFinites, outsides, readingFor, answerWith, refusedWith, doorAnswer};
-use layout::TABLE;
 use layout::VARIABLES;
 use layout::refusals::DONE;
 use layout::refusals::NOT_FINITE;
 use layout::refusals::OUTSIDE;
-use layout::refusals::WRONG_TABLE;
 use limits::Limits;
 use rounding::Step;
-use tables::soundness::soundness;
+use tables::soundness::refusal_of;
 
 // What the door gives back: its number, the reading where that is outside its limits and positive zero otherwise, and the floats of
 // X, Y, Z, l, m and n.
@@ -61,8 +59,7 @@ fn steps_of(limits: Limits, readings: [f64; VARIABLES]) -> [Step; VARIABLES]
     let mut steps = [Step::NotFinite; VARIABLES];
     let mut i: usize = 0;
     while i < VARIABLES {
-        let x = readings[i];
-        let step = rounding::step_of(x, limits.lowest(i), limits.highest(i));
+        let step = rounding::step_of(readings[i], limits.lowest(i), limits.highest(i));
         steps[i] = step;
         i += 1;
     }
@@ -154,10 +151,7 @@ fn answered(table: &[i64], piece: usize, state: [i64; VARIABLES]) -> Answer
 pub fn read_floats(table: &[i64], readings: [f64; VARIABLES]) -> Answer
     ensures { λ r. ⌜ r ≡ doorAnswer (now (table .entry)) (floats readings) ⌝ }
 {
-    if table.len() != TABLE {
-        return refused(WRONG_TABLE, 0.0);
-    }
-    let unsound = soundness(table);
+    let unsound = refusal_of(table);
     if unsound != DONE {
         return refused(unsound, 0.0);
     }

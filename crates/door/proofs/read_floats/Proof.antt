@@ -1,5 +1,5 @@
 -- `door::read_floats` meets its contract: each way out is the first refusal that holds, and the last gives the six floats. Assumes nothing.
-use mathlib.Core.Path.{_≡_, sym, _∙_, ap, ap₂, fun-ext}
+use mathlib.Core.Path.{_≡_, sym, _∙_, ap, ap₂, subst, fun-ext}
 use mathlib.Core.Bool.{Bool, true, false, cond, _&&_}
 use mathlib.Core.List.{List, _++_}
 use Prim.Native.Nat.{ℕ, _<_}
@@ -23,7 +23,7 @@ use Rattle.layout.proofs.LimitLaws.{limits-take, lowest-same, highest-same, goo
 use Rattle.layout.specs.Accepted.{ReadAccepted}
 use Rattle.blocks.specs.Ready.{Valued}
 use Rattle.tables.proofs.Taken.{cut-taken, range-taken}
-use Rattle.tables.proofs.Steps.{whole-table, not-whole, first-apart, sound-facts, valued, positive}
+use Rattle.tables.proofs.Steps.{first-apart, known-sound, valued, positive}
 use Rattle.rounding.specs.Reading.{stepOf}
 use Rattle.rounding.specs.Answer.{floatOf}
 use Rattle.rounding.specs.declared.Step.{Step}
@@ -31,15 +31,15 @@ use Rattle.rounding.specs.declared.Step.the-variants.{Whole}
 use Rattle.door.specs.Steps.{positiveZero, numberOf, wholeIn, isNotFinite, isOutside, stepsOf}
 use Rattle.door.specs.Door.{floats, roundedAll, stepAt, notFinites, outsides, doorNumber, readingFor, answerWith, doorAnswer}
 use Rattle.door.specs.declared.Answer.{Answer}
-use Rattle.door.proofs.Numbers.{door-wrong-table, door-unsound, door-sound, unsound-small, not-finite-number, past-finite, back-below, back-above, back-agreed, refused-answer, done-answer}
+use Rattle.door.proofs.Numbers.{door-refused, door-sound, table-small, not-finite-number, past-finite, back-below, back-above, back-agreed, refused-answer, done-answer}
 use Rattle.door.proofs.Wholes.{step-whole, rounded-inside, total-agreed}
 use Rattle.door.proofs.read_floats.Statement.{statement}
 use Rattle.door.proofs.read_floats.Tie as tie
 
 -- ---- a sound table
-module _ (c : tie.Else2) where
+module _ (c : tie.Else1) where
   abbrev start : tie.Start
-  start = c .before .before .before
+  start = c .before .before
 
   abbrev t : List ℤ
   t = start .args .table .now
@@ -50,18 +50,15 @@ module _ (c : tie.Else2) where
   abbrev s : ℕ → Step
   s = stepAt t x
 
-  table-whole : length t ≡ tableLength cumulus
-  table-whole = whole-table (c .before .before .if1 .left)
-
-  sound : (good cumulus t ≡ true) × (light cumulus t ≡ true)
-  sound = sound-facts t (sym (c .before .soundness .ensures) ∙ c .if2 .left)
+  known : (length t ≡ tableLength cumulus) × ((good cumulus t ≡ true) × (light cumulus t ≡ true))
+  known = known-sound t (sym (c .before .refusal-of .ensures) ∙ c .if1 .left)
 
   number-is : doorNumber cumulus t x ≡ first (notFinites (cumulus .variables) s ++ outsides (cumulus .variables) s)
-  number-is = door-sound t x table-whole sound
+  number-is = door-sound t x (known .0) (known .1)
 
 -- ---- its steps
 module _ (c : tie.After-steps-of) where
-  abbrev there : tie.Else2
+  abbrev there : tie.Else1
   there = c .before .before
 
   same-step : (i : ℕ) → i < cumulus .variables → stepAt (c .before .of .result .numbers) (x there) i ≡ s there i
@@ -88,7 +85,7 @@ module _ (c : tie.After-outside) where
   steps = c .before .before .before
 
   finite : first (notFinites (cumulus .variables) (s (there steps))) ≡ 0
-  finite = sym (unread-is (c .before .before)) ∙ c .before .if3 .left
+  finite = sym (unread-is (c .before .before)) ∙ c .before .if2 .left
 
   outside-is : first (outsides (cumulus .variables) (stepsOf (steps .steps-of .result))) ≡ doorNumber cumulus (t (there steps)) (x (there steps))
   outside-is = ap first (outsides-are steps) ∙ sym (number-is (there steps) ∙ past-finite (s (there steps)) (cumulus .variables) finite)
@@ -101,14 +98,14 @@ module _ (c : tie.After-wholes-in) where
   abbrev past : tie.After-outside
   past = c .before .before .before
 
-  abbrev d : tie.Else2
+  abbrev d : tie.Else1
   d = there (steps past)
 
   abbrev w : ℕ → ℤ
   w = readings (c .wholes-in .result)
 
   nothing : doorNumber cumulus (t d) (x d) ≡ 0
-  nothing = sym (past-number past) ∙ c .before .if4 .left
+  nothing = sym (past-number past) ∙ c .before .if3 .left
 
   within : first (outsides (cumulus .variables) (s d)) ≡ 0
   within = sym (number-is d ∙ past-finite (s d) (cumulus .variables) (finite past)) ∙ nothing
@@ -120,10 +117,10 @@ module _ (c : tie.After-wholes-in) where
 
   readable : ReadAccepted cumulus (t d) w (listed (cumulus .blocks) (λ b. pos 0))
   readable = record {
-    table = table-whole d;
+    table = known d .0;
     output = length-listed (cumulus .blocks) (λ b. pos 0);
-    limits = sound d .0;
-    weights = sound d .1;
+    limits = known d .1 .0;
+    weights = known d .1 .1;
     readings = λ i h. ap (λ z. leZ (lowest (t d) i) z && leZ z (highest (t d) i)) (state-is i h) ∙ rounded-inside (t d) (x d) (finite past) within i h;
   }
 
@@ -152,112 +149,99 @@ module _ (c : tie.After-in-low-piece) where
       (fun-ext (λ b. ap floatOf (total-agreed (w all) (roundedAll (x (d all))) (state-is all) (t (d all)) b (piece n) ∙ ap (λ p. total (coefficient cumulus (t (d all)) b p) (roundedAll (x (d all)))) same)))
       ∙ done-answer (t (d all)) (x (d all)) (nothing all)
 
+refusal-of-requires : tie.Need-refusal-of-requires
+refusal-of-requires c κs = tt
+
 refused-requires : tie.Need-refused-requires
-refused-requires c κs = search needs
+refused-requires c κs = tt
 
 returns : tie.Need-returns
 unfolding ofBits
 returns c =
-    let a = c .before .before .args in
-    let e = door-wrong-table (a .table .now) (floats (a .readings)) (not-whole (c .before .if1 .taken)) in
-    c .refused .ensures ∙ refused-answer (a .table .now) (floats (a .readings)) 1 positiveZero e (omega arith) (back-below (stepAt (a .table .now) (floats (a .readings))) 1 (omega arith))
-
-soundness-requires : tie.Need-soundness-requires
-soundness-requires c κs = whole-table (c .if1 .left)
-
-refused-requires-2 : tie.Need-refused-requires-2
-refused-requires-2 c κs = search needs
-
-returns-2 : tie.Need-returns-2
-unfolding ofBits
-returns-2 c =
-    let a = c .before .before .before .before .args in
-    let n = c .before .before .soundness .result in
-    let e = c .before .before .soundness .ensures in
-    let number = door-unsound (a .table .now) (floats (a .readings)) (whole-table (c .before .before .before .if1 .left)) n e (c .before .if2 .taken) in
-    c .refused2 .ensures
-    ∙ refused-answer (a .table .now) (floats (a .readings)) n positiveZero number (positive (c .before .if2 .taken))
-    (back-below (stepAt (a .table .now) (floats (a .readings))) n (omega (arith, e, unsound-small (a .table .now))))
+    let r = c .before .before in
+    let a = r .before .args in
+    let n = r .refusal-of .result in
+    c .refused .ensures
+    ∙ refused-answer (a .table .now) (floats (a .readings)) n positiveZero (door-refused (a .table .now) (floats (a .readings)) n (r .refusal-of .ensures) (c .before .if1 .taken)) (positive (c .before .if1 .taken))
+    (back-below (stepAt (a .table .now) (floats (a .readings))) n (subst (λ k. k < 11) (sym (r .refusal-of .ensures)) (table-small (a .table .now))))
 
 of-requires : tie.Need-of-requires
-of-requires c κs = search needs
+of-requires c κs = omega (arith, known c .0)
 
 steps-of-requires : tie.Need-steps-of-requires
 steps-of-requires c κs =
     let d = c .before in
-    ap (allInRange cumulus) (c .of .ensures) ∙ range-taken (t d) ∙ good-facts cumulus (t d) (sound d .0) .range
+    ap (allInRange cumulus) (c .of .ensures) ∙ range-taken (t d) ∙ good-facts cumulus (t d) (known d .1 .0) .range
 
 not-finite-requires : tie.Need-not-finite-requires
-not-finite-requires c κs = search needs
+not-finite-requires c κs = tt
 
-refused-requires-3 : tie.Need-refused-requires-3
-refused-requires-3 c κs = search needs
+refused-requires-2 : tie.Need-refused-requires-2
+refused-requires-2 c κs = tt
 
-returns-3 : tie.Need-returns-3
+returns-2 : tie.Need-returns-2
 unfolding ofBits
-returns-3 c =
+returns-2 c =
     let f = c .before .before in
     let d = there (f .before) in
-    let apart : first (notFinites (cumulus .variables) (s d)) ≡ 0 → ⊥ = λ z. c .before .if3 .taken (unread-is f ∙ z) in
+    let apart : first (notFinites (cumulus .variables) (s d)) ≡ 0 → ⊥ = λ z. c .before .if2 .taken (unread-is f ∙ z) in
     let number : doorNumber cumulus (t d) (x d) ≡ f .not-finite .result = number-is d ∙ first-apart (notFinites (cumulus .variables) (s d)) (outsides (cumulus .variables) (s d)) apart ∙ sym (unread-is f) in
-    c .refused3 .ensures
-    ∙ refused-answer (t d) (x d) (f .not-finite .result) positiveZero number (positive (c .before .if3 .taken))
+    c .refused2 .ensures
+    ∙ refused-answer (t d) (x d) (f .not-finite .result) positiveZero number (positive (c .before .if2 .taken))
     (back-above (s d) (f .not-finite .result) (omega (arith, unread-is f, not-finite-number (s d) (cumulus .variables) apart)))
 
 outside-requires : tie.Need-outside-requires
-outside-requires c κs = search needs
+outside-requires c κs = tt
 
-returns-4 : tie.Need-returns-4
-returns-4 c =
+returns-3 : tie.Need-returns-3
+returns-3 c =
     let o = c .before .before in
     let d = there (steps o) in
     let n = first (outsides (cumulus .variables) (stepsOf (steps o .steps-of .result))) in
-    let apart : n ≡ 0 → ⊥ = λ z. c .if4 .taken (ap (λ r. r .number) (o .outside .ensures) ∙ z) in
+    let apart : n ≡ 0 → ⊥ = λ z. c .if3 .taken (ap (λ r. r .number) (o .outside .ensures) ∙ z) in
     o .outside .ensures
     ∙ refused-answer (t d) (x d) n (readingFor cumulus (stepsOf (steps o .steps-of .result)) n) (sym (outside-is o)) (positive apart)
     (sym (back-agreed (stepsOf (steps o .steps-of .result)) (s d) (step-is (steps o)) n))
 
 wholes-in-requires : tie.Need-wholes-in-requires
-wholes-in-requires c κs = search needs
+wholes-in-requires c κs = tt
 
 array-copy-out-in-low-piece : tie.Need-array-copy-out-in-low-piece
 array-copy-out-in-low-piece c = search needs
 
 in-low-piece-requires : tie.Need-in-low-piece-requires
-in-low-piece-requires c κs = search needs
+in-low-piece-requires c κs = tt
 
 answered-requires : tie.Need-answered-requires
-answered-requires c κs = all-valued (c .before) 0 (omega arith) (piece-is (c .before) true (c .if5 .taken))
+answered-requires c κs = all-valued (c .before) 0 (omega arith) (piece-is (c .before) true (c .if4 .taken))
 
-returns-5 : tie.Need-returns-5
-returns-5 c = answers (c .before .before) 0 (piece-is (c .before .before) true (c .before .if5 .taken)) _ (c .answered .ensures)
+returns-4 : tie.Need-returns-4
+returns-4 c = answers (c .before .before) 0 (piece-is (c .before .before) true (c .before .if4 .taken)) _ (c .answered .ensures)
 
 answered-requires-2 : tie.Need-answered-requires-2
-answered-requires-2 c κs = all-valued (c .before) 1 (omega arith) (piece-is (c .before) false (c .if5 .left))
+answered-requires-2 c κs = all-valued (c .before) 1 (omega arith) (piece-is (c .before) false (c .if4 .left))
 
-returns-6 : tie.Need-returns-6
-returns-6 c = answers (c .before .before) 1 (piece-is (c .before .before) false (c .before .if5 .left)) _ (c .answered2 .ensures)
+returns-5 : tie.Need-returns-5
+returns-5 c = answers (c .before .before) 1 (piece-is (c .before .before) false (c .before .if4 .left)) _ (c .answered2 .ensures)
 
 pub read-floats-spec : {M : Type 1} → statement M
 read-floats-spec =
     tie.close
     (tie.spec
+    refusal-of-requires
     refused-requires
     returns
-    soundness-requires
-    refused-requires-2
-    returns-2
     of-requires
     steps-of-requires
     not-finite-requires
-    refused-requires-3
-    returns-3
+    refused-requires-2
+    returns-2
     outside-requires
-    returns-4
+    returns-3
     wholes-in-requires
     array-copy-out-in-low-piece
     in-low-piece-requires
     answered-requires
-    returns-5
+    returns-4
     answered-requires-2
-    returns-6)
+    returns-5)

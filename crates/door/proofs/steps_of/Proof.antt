@@ -36,11 +36,11 @@ loop-holds : tie.Need-loop-holds Inv-loop μ-loop
 unfolding listed
 loop-holds c = (omega arith, refl, refl)
 
-mul-x : tie.Need-mul-x Inv-loop μ-loop
-mul-x c = search needs
+mul-step-of : tie.Need-mul-step-of Inv-loop μ-loop
+mul-step-of c = search needs
 
-array-read-x : tie.Need-array-read-x Inv-loop μ-loop
-array-read-x c = search needs
+array-read-step-of : tie.Need-array-read-step-of Inv-loop μ-loop
+array-read-step-of c = search needs
 
 lowest-requires : tie.Need-lowest-requires Inv-loop μ-loop
 lowest-requires c κs = search needs
@@ -94,8 +94,8 @@ steps-of-spec =
     Inv-loop
     μ-loop
     loop-holds
-    mul-x
-    array-read-x
+    mul-step-of
+    array-read-step-of
     lowest-requires
     highest-requires
     step-of-requires
