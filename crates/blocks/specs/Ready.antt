@@ -1,15 +1,23 @@
 -- What the functions on one block ask of their callers.
 use mathlib.Core.Path.{_≡_}
 use mathlib.Core.List.{List, _++_}
-use Prim.Native.Nat.{ℕ, _-_, _≤_, _<_, max}
-use lib.IntN.{ℤ, pos, natAbs}
-use lib.ListN.{length, getD, take, drop}
+use Prim.Native.Nat.{ℕ, _+_, _-_, _≤_, _<_, max}
+use lib.IntN.{ℤ, natAbs}
+use lib.ListN.{length, take, drop}
 use Rattle.polynomials.specs.Order.{size}
 use Rattle.polynomials.specs.Groups.{Group, weightOf, totalWeight, longer}
 use Rattle.polynomials.specs.Limits.{cap, farthest, highestDegree}
+use Rattle.polynomials.specs.Ready.{Readable}
 use Rattle.layout.specs.Shape.{tableLength, blockLength, cumulus}
 use Rattle.layout.specs.Blocks.{Piece, piece, groups, chosen, coefficient}
 use Rattle.layout.specs.Reading.{readings}
+
+-- to read the group of n numbers in the variables u and v that starts at the place a, at a state
+pub record GroupAt (t : List ℤ) (a n u v : ℕ) (x : List ℤ) : Type 0 where
+  pub inside : a + n ≤ length t
+  pub first : u < cumulus .variables
+  pub second : v < cumulus .variables
+  pub ready : Readable (take n (drop a t)) (readings x u) (readings x v)
 
 -- to read a block's coefficient at a state: the weight at the readings' own magnitudes is within the cap
 pub record Valued (t : List ℤ) (b n : ℕ) (x : List ℤ) : Type 0 where

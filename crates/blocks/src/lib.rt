@@ -1,17 +1,15 @@
 // One block of a table: the value of its coefficient, and its groups moved.
 ghost use mathlib.Core.Path.{_≡_};
-ghost use Prim.Native.Nat.{_+_, _<_, _≤_};
 ghost use lib.IntN.{ℤ};
 ghost use lib.ListN.{length, take, drop};
 ghost use Rattle.polynomials.specs.Binomial.{multipliedRows, shiftIn};
 ghost use Rattle.polynomials.specs.Group.{value};
-ghost use Rattle.polynomials.specs.Ready.{Readable};
 ghost use Rattle.polynomials.specs.Groups.{total, movedGroup};
 ghost use Rattle.layout.specs.Shape.{cumulus};
 ghost use Rattle.layout.specs.Blocks.{coefficient, piece as pieceOf};
 ghost use Rattle.layout.specs.Reading.{readings};
 ghost use Rattle.layout.specs.Moving.{movedBlock};
-ghost use Rattle.blocks.specs.Ready.{grouped, between, placed, Valued, ShiftableGroup, Between, Shiftable};
+ghost use Rattle.blocks.specs.Ready.{grouped, between, placed, GroupAt, Valued, ShiftableGroup, Between, Shiftable};
 use layout::BLOCK;
 use layout::LIMITS;
 use layout::PITCH;
@@ -21,13 +19,20 @@ use layout::XI_START;
 use layout::ZETA_START;
 use polynomials::Variable;
 
-// The value of the group of `count` numbers that starts at a place of a table.
-fn group_at(table: &[i64], start: usize, count: usize, x: i64, y: i64) -> i64
-    requires { ⌜ (start + count ≤ length (now table)) × Readable (take count (drop start (now table))) x y ⌝ }
-    ensures { λ r. ⌜ r ≡ value (take count (drop start (now (table .entry)))) x y ⌝ }
+// The value of the group of `count` numbers in the variables u and v that starts at a place of a table, at a state.
+fn group_at(
+    table: &[i64],
+    start: usize,
+    count: usize,
+    u: usize,
+    v: usize,
+    state: [i64; VARIABLES],
+) -> i64
+    requires { ⌜ GroupAt (now table) start count u v state ⌝ }
+    ensures { λ r. ⌜ r ≡ value (take count (drop start (now (table .entry)))) (readings state u) (readings state v) ⌝ }
 {
     let end = start + count;
-    polynomials::value_at(&table[start..end], x, y)
+    polynomials::value_at(&table[start..end], state[u], state[v])
 }
 
 // The coefficient of a block at a state, in the low piece (0) or the high one.
@@ -36,9 +41,9 @@ pub fn coefficient_at(table: &[i64], block: usize, piece: usize, state: [i64; VA
     ensures { λ r. ⌜ r ≡ total (coefficient cumulus (now (table .entry)) block (pieceOf piece)) (readings state) ⌝ }
 {
     let start = LIMITS + BLOCK * block;
-    let pitch = group_at(table, start + PITCH * piece, PITCH, state[0], state[3]);
-    let aileron = group_at(table, start + XI_START, SIDE, state[1], state[2]);
-    let rudder = group_at(table, start + ZETA_START, SIDE, state[1], state[4]);
+    let pitch = group_at(table, start + PITCH * piece, PITCH, 0, 3, state);
+    let aileron = group_at(table, start + XI_START, SIDE, 1, 2, state);
+    let rudder = group_at(table, start + ZETA_START, SIDE, 1, 4, state);
     pitch + (aileron + rudder)
 }
 

@@ -1,6 +1,6 @@
 -- `blocks::coefficient_at` meets its contract: the three groups that count are read where they stand, and their weights bound the sums.
 -- Assumes nothing.
-use mathlib.Core.Path.{_≡_, sym, _∙_, ap, ap₂, subst, subst₂}
+use mathlib.Core.Path.{_≡_, sym, _∙_, ap, subst}
 use mathlib.Core.List.{List, [], _∷_}
 use Prim.Native.Nat.{ℕ, _+_, _*_, _≤_, _<_, max}
 use native.Mathlib.Nat as N
@@ -23,7 +23,7 @@ use Rattle.layout.specs.Shape.{kindsLength, cumulus}
 use Rattle.layout.specs.Numbers.{limitsSize, pitchSize, sideSize, xiStart, zetaStart, blockSize}
 use Rattle.layout.specs.Blocks.{piece, coefficient}
 use Rattle.layout.specs.Reading.{readings}
-use Rattle.blocks.specs.Ready.{grouped, Valued}
+use Rattle.blocks.specs.Ready.{grouped, GroupAt, Valued}
 use Rattle.blocks.proofs.Parts.{coefficient-parts}
 use Rattle.blocks.proofs.coefficient_at.Statement.{statement}
 use Rattle.blocks.proofs.coefficient_at.Tie as tie
@@ -56,16 +56,6 @@ module _ (t : List ℤ) (b n : ℕ) (state : List ℤ) (ready : Valued t b n sta
   long : limitsSize + blockSize * b + blockSize ≤ length t
   unfolding kindsLength below
   long = omega (arith, ready .whole, ready .block)
-
-  -- a reading, as the code holds it
-  bits : (i : ℕ) → i < cumulus .variables → toZ w64 (ofZ w64 (x i)) ≡ x i
-  bits i h = toZ-ofZ (natAbs-sfits (x i) (omega (arith, ready .near i h)))
-
-  in-bits : (i j : ℕ) → i < cumulus .variables → j < cumulus .variables → (l : List ℤ) → Readable l (x i) (x j) → Readable l (toZ w64 (ofZ w64 (x i))) (toZ w64 (ofZ w64 (x j)))
-  in-bits i j a b l h = subst₂ (λ y z. Readable l y z) (sym (bits i a)) (sym (bits j b)) h
-
-  out-bits : (i j : ℕ) → i < cumulus .variables → j < cumulus .variables → (l : List ℤ) (z : ℤ) → SFits w64 z → z ≡ value l (toZ w64 (ofZ w64 (x i))) (toZ w64 (ofZ w64 (x j))) → toZ w64 (ofZ w64 z) ≡ value l (x i) (x j)
-  out-bits i j a b l z f e = toZ-ofZ f ∙ e ∙ ap₂ (value l) (bits i a) (bits j b)
 
   readable : (i j a m : ℕ) → i < cumulus .variables → j < cumulus .variables → m ≤ sideSize → weight (take m (drop a t)) (r i) (r j) ≤ cap → Readable (take m (drop a t)) (x i) (x j)
   unfolding below
@@ -100,34 +90,33 @@ module _ (t : List ℤ) (b n : ℕ) (state : List ℤ) (ready : Valued t b n sta
       ap (λ z. value own (x 0) (x 3) +ℤ (value xi (x 1) (x 2) +ℤ z)) (sym (+ℤ-idr (value zeta (x 1) (x 4))))
       ∙ ap (λ gs. total gs x) (sym (coefficient-parts t b n (ready .half)))
 
--- ---- the three values, as they come back
+-- ---- what a call asks, and the three values as they come back
+module _ (a : tie.Start) where
+  abbrev table : List ℤ
+  table = a .args .table .now
+
+  asks : (p m u v : ℕ) → p + m ≤ length table → u < cumulus .variables → v < cumulus .variables → Readable (take m (drop p table)) (readings (a .args .state) u) (readings (a .args .state) v)
+      → GroupAt table p m u v (a .args .state)
+  asks p m u v h k l r = record { inside = h; first = k; second = l; ready = r }
+
+  inside : limitsSize + blockSize * a .args .block + blockSize ≤ length table
+  inside = long table (a .args .block) (a .args .piece) (a .args .state) (a .pre)
+
 module _ (c : tie.After-group-at3) where
   abbrev start : tie.Start
-  start = c .before .before .before .before .before .before .before .before .before
+  start = c .before .before .before
 
-  abbrev table : List ℤ
-  table = start .args .table .now
+  own-is : toZ w64 (ofZ w64 (c .before .before .group-at .result)) ≡ value (own (table start) (start .args .block) (start .args .piece) (start .args .state) (start .pre)) (readings (start .args .state) 0) (readings (start .args .state) 3)
+  own-is = let g = c .before .before .group-at in toZ-ofZ (sfits-of {z = g .result} (g .ok)) ∙ g .ensures
 
-  abbrev at : ℕ → ℤ
-  at = readings (start .args .t4)
+  xi-is : toZ w64 (ofZ w64 (c .before .group-at2 .result)) ≡ value (xi (table start) (start .args .block) (start .args .piece) (start .args .state) (start .pre)) (readings (start .args .state) 1) (readings (start .args .state) 2)
+  xi-is = let g = c .before .group-at2 in toZ-ofZ (sfits-of {z = g .result} (g .ok)) ∙ g .ensures
 
-  own-is : toZ w64 (ofZ w64 (c .before .before .before .before .before .before .group-at .result)) ≡ value (own table (start .args .block) (start .args .piece) (start .args .t4) (start .pre)) (at 0) (at 3)
-  own-is =
-      let g = c .before .before .before .before .before .before .group-at in
-      out-bits table (start .args .block) (start .args .piece) (start .args .t4) (start .pre) 0 3 (omega arith) (omega arith) _ (g .result) (sfits-of {z = g .result} (g .ok)) (g .ensures)
+  zeta-is : toZ w64 (ofZ w64 (c .group-at3 .result)) ≡ value (zeta (table start) (start .args .block) (start .args .piece) (start .args .state) (start .pre)) (readings (start .args .state) 1) (readings (start .args .state) 4)
+  zeta-is = let g = c .group-at3 in toZ-ofZ (sfits-of {z = g .result} (g .ok)) ∙ g .ensures
 
-  xi-is : toZ w64 (ofZ w64 (c .before .before .before .group-at2 .result)) ≡ value (xi table (start .args .block) (start .args .piece) (start .args .t4) (start .pre)) (at 1) (at 2)
-  xi-is =
-      let g = c .before .before .before .group-at2 in
-      out-bits table (start .args .block) (start .args .piece) (start .args .t4) (start .pre) 1 2 (omega arith) (omega arith) _ (g .result) (sfits-of {z = g .result} (g .ok)) (g .ensures)
-
-  zeta-is : toZ w64 (ofZ w64 (c .group-at3 .result)) ≡ value (zeta table (start .args .block) (start .args .piece) (start .args .t4) (start .pre)) (at 1) (at 4)
-  zeta-is =
-      let g = c .group-at3 in
-      out-bits table (start .args .block) (start .args .piece) (start .args .t4) (start .pre) 1 4 (omega arith) (omega arith) _ (g .result) (sfits-of {z = g .result} (g .ok)) (g .ensures)
-
-  sides-is : toZ w64 (ofZ w64 (toZ w64 (ofZ w64 (c .before .before .before .group-at2 .result)) +ℤ toZ w64 (ofZ w64 (c .group-at3 .result)))) ≡ sides table (start .args .block) (start .args .piece) (start .args .t4) (start .pre)
-  sides-is = op-back _+ℤ_ xi-is zeta-is (sides-fit table (start .args .block) (start .args .piece) (start .args .t4) (start .pre))
+  sides-is : toZ w64 (ofZ w64 (toZ w64 (ofZ w64 (c .before .group-at2 .result)) +ℤ toZ w64 (ofZ w64 (c .group-at3 .result)))) ≡ sides (table start) (start .args .block) (start .args .piece) (start .args .state) (start .pre)
+  sides-is = op-back _+ℤ_ xi-is zeta-is (sides-fit (table start) (start .args .block) (start .args .piece) (start .args .state) (start .pre))
 
 mul-start : tie.Need-mul-start
 mul-start c = search needs
@@ -141,65 +130,36 @@ mul-group-at c = search needs
 add-group-at : tie.Need-add-group-at
 add-group-at c = search needs
 
-array-copy-out-group-at : tie.Need-array-copy-out-group-at
-array-copy-out-group-at c = search needs
-
-array-copy-out-group-at-2 : tie.Need-array-copy-out-group-at-2
-array-copy-out-group-at-2 c = search needs
-
 group-at-requires : tie.Need-group-at-requires
-group-at-requires c κs =
-    let a = c .before .before in
-    let v = a .pre in (
-      omega (arith, long (a .args .table .now) (a .args .block) (a .args .piece) (a .args .t4) v, v .half),
-      in-bits (a .args .table .now) (a .args .block) (a .args .piece) (a .args .t4) v 0 3 (omega arith) (omega arith) _ (read-own (a .args .table .now) (a .args .block) (a .args .piece) (a .args .t4) v),
-    )
+group-at-requires c κs = asks c _ pitchSize 0 3 (omega (arith, inside c, c .pre .half)) (omega arith) (omega arith) (read-own (table c) (c .args .block) (c .args .piece) (c .args .state) (c .pre))
 
 add-group-at-2 : tie.Need-add-group-at-2
 add-group-at-2 c = search needs
 
-array-copy-out-group-at-3 : tie.Need-array-copy-out-group-at-3
-array-copy-out-group-at-3 c = search needs
-
-array-copy-out-group-at-4 : tie.Need-array-copy-out-group-at-4
-array-copy-out-group-at-4 c = search needs
-
 group-at-requires-2 : tie.Need-group-at-requires-2
 group-at-requires-2 c κs =
-    let a = c .before .before .before .before .before in
-    let v = a .pre in (
-      omega (arith, long (a .args .table .now) (a .args .block) (a .args .piece) (a .args .t4) v),
-      in-bits (a .args .table .now) (a .args .block) (a .args .piece) (a .args .t4) v 1 2 (omega arith) (omega arith) _ (read-xi (a .args .table .now) (a .args .block) (a .args .piece) (a .args .t4) v),
-    )
+    let a = c .before in
+    asks a _ sideSize 1 2 (omega (arith, inside a)) (omega arith) (omega arith) (read-xi (table a) (a .args .block) (a .args .piece) (a .args .state) (a .pre))
 
 add-group-at-3 : tie.Need-add-group-at-3
 add-group-at-3 c = search needs
 
-array-copy-out-group-at-5 : tie.Need-array-copy-out-group-at-5
-array-copy-out-group-at-5 c = search needs
-
-array-copy-out-group-at-6 : tie.Need-array-copy-out-group-at-6
-array-copy-out-group-at-6 c = search needs
-
 group-at-requires-3 : tie.Need-group-at-requires-3
 group-at-requires-3 c κs =
-    let a = c .before .before .before .before .before .before .before .before in
-    let v = a .pre in (
-      omega (arith, long (a .args .table .now) (a .args .block) (a .args .piece) (a .args .t4) v),
-      in-bits (a .args .table .now) (a .args .block) (a .args .piece) (a .args .t4) v 1 4 (omega arith) (omega arith) _ (read-zeta (a .args .table .now) (a .args .block) (a .args .piece) (a .args .t4) v),
-    )
+    let a = c .before .before in
+    asks a _ sideSize 1 4 (omega (arith, inside a)) (omega arith) (omega arith) (read-zeta (table a) (a .args .block) (a .args .piece) (a .args .state) (a .pre))
 
 add-result : tie.Need-add-result
-add-result c = op-bits _+ℤ_ (xi-is c) (zeta-is c) (sides-fit (table c) (start c .args .block) (start c .args .piece) (start c .args .t4) (start c .pre))
+add-result c = let a = start c in op-bits _+ℤ_ (xi-is c) (zeta-is c) (sides-fit (table a) (a .args .block) (a .args .piece) (a .args .state) (a .pre))
 
 add-result-2 : tie.Need-add-result-2
-add-result-2 c = op-bits _+ℤ_ (own-is c) (sides-is c) (all-fit (table c) (start c .args .block) (start c .args .piece) (start c .args .t4) (start c .pre))
+add-result-2 c = let a = start c in op-bits _+ℤ_ (own-is c) (sides-is c) (all-fit (table a) (a .args .block) (a .args .piece) (a .args .state) (a .pre))
 
 returns : tie.Need-returns
 returns c =
     let a = start c in
-    op-back _+ℤ_ (own-is c) (sides-is c) (all-fit (table c) (a .args .block) (a .args .piece) (a .args .t4) (a .pre))
-    ∙ all-is (table c) (a .args .block) (a .args .piece) (a .args .t4) (a .pre)
+    op-back _+ℤ_ (own-is c) (sides-is c) (all-fit (table a) (a .args .block) (a .args .piece) (a .args .state) (a .pre))
+    ∙ all-is (table a) (a .args .block) (a .args .piece) (a .args .state) (a .pre)
 
 pub coefficient-at-spec : {M : Type 1} → statement M
 coefficient-at-spec =
@@ -209,16 +169,10 @@ coefficient-at-spec =
     add-start
     mul-group-at
     add-group-at
-    array-copy-out-group-at
-    array-copy-out-group-at-2
     group-at-requires
     add-group-at-2
-    array-copy-out-group-at-3
-    array-copy-out-group-at-4
     group-at-requires-2
     add-group-at-3
-    array-copy-out-group-at-5
-    array-copy-out-group-at-6
     group-at-requires-3
     add-result
     add-result-2

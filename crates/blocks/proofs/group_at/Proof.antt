@@ -1,17 +1,39 @@
--- `blocks::group_at` meets its contract: the part that is lent on is the group. Assumes nothing.
+-- `blocks::group_at` meets its contract: the part that is lent on is the group, and the two readings are those of its variables.
+-- Assumes nothing.
 use mathlib.Core.Path.{_≡_, sym, _∙_, subst₃}
 use Prim.Native.Nat.{ℕ, _+_, _-_}
 use native.Mathlib.Omega.{arith}
 use borrow.Author.Needs.{needs, sfits-of}
+use lib.IntN.{ℤ}
 use lib.ListN.{take, drop}
+use mir.Syntax.{w64}
+use mir.Val.{toZ, ofZ}
 use mir.Facts.{toZ-ofZ}
 use Rattle.polynomials.specs.Group.{value}
 use Rattle.polynomials.specs.Ready.{Readable}
+use Rattle.layout.specs.Reading.{readings}
 use Rattle.blocks.proofs.group_at.Statement.{statement}
 use Rattle.blocks.proofs.group_at.Tie as tie
 
 count-is : (a n : ℕ) → a + n - a ≡ n
 count-is a n = omega arith
+
+module _ (c : tie.After-value-at-arg3) where
+  abbrev start : tie.Start
+  start = c .before .before .before
+
+  abbrev first : ℤ
+  first = readings (start .args .t6) (start .args .u)
+
+  abbrev second : ℤ
+  second = readings (start .args .t6) (start .args .v)
+
+  -- the readings, as they are read
+  first-is : toZ w64 (ofZ w64 first) ≡ first
+  first-is = toZ-ofZ (sfits-of {z = first} (c .before .value-at-arg2 .given))
+
+  second-is : toZ w64 (ofZ w64 second) ≡ second
+  second-is = toZ-ofZ (sfits-of {z = second} (c .value-at-arg3 .given))
 
 add-end : tie.Need-add-end
 add-end c = search needs
@@ -28,18 +50,42 @@ part-value-at-start c = search needs
 part-value-at-end : tie.Need-part-value-at-end
 part-value-at-end c = search needs
 
+mul-value-at-2 : tie.Need-mul-value-at-2
+mul-value-at-2 c = search needs
+
+array-copy-out-value-at : tie.Need-array-copy-out-value-at
+array-copy-out-value-at c = search needs
+
+mul-value-at-3 : tie.Need-mul-value-at-3
+mul-value-at-3 c = search needs
+
+array-copy-out-value-at-2 : tie.Need-array-copy-out-value-at-2
+array-copy-out-value-at-2 c = search needs
+
 value-at-requires : tie.Need-value-at-requires
 value-at-requires c κs =
-    let a = c .before in
-    subst₃ (λ n x y. Readable (take n (drop (a .args .start) (a .args .table .now))) x y) (sym (count-is (a .args .start) (a .args .count))) (sym (toZ-ofZ (a .fits .x))) (sym (toZ-ofZ (a .fits .y)))
-    (a .pre .1)
+    let a = start c .args in
+    subst₃ (λ n x y. Readable (take n (drop (a .start) (a .table .now))) x y) (sym (count-is (a .start) (a .count))) (sym (first-is c)) (sym (second-is c)) (start c .pre .ready)
 
 returns : tie.Need-returns
 returns c =
-    let a = c .before .before in
+    let d = c .before in
+    let a = start d .args in
     toZ-ofZ (sfits-of {z = c .value-at .result} (c .value-at .ok)) ∙ c .value-at .ensures
-    ∙ λ i. value (take (count-is (a .args .start) (a .args .count) i) (drop (a .args .start) (a .args .table .now))) (toZ-ofZ (a .fits .x) i) (toZ-ofZ (a .fits .y) i)
+    ∙ λ i. value (take (count-is (a .start) (a .count) i) (drop (a .start) (a .table .now))) (first-is d i) (second-is d i)
 
 pub group-at-spec : {M : Type 1} → statement M
 group-at-spec =
-    tie.close (tie.spec add-end mul-value-at sub-value-at part-value-at-start part-value-at-end value-at-requires returns)
+    tie.close
+    (tie.spec
+    add-end
+    mul-value-at
+    sub-value-at
+    part-value-at-start
+    part-value-at-end
+    mul-value-at-2
+    array-copy-out-value-at
+    mul-value-at-3
+    array-copy-out-value-at-2
+    value-at-requires
+    returns)
