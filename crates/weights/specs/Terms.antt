@@ -1,7 +1,8 @@
 -- The forty terms of a coefficient in one piece: the ten of the piece's own group, then the fifteen of each side group.
 use mathlib.Core.Bool.{cond}
-use mathlib.Core.List.{List}
-use Prim.Native.Nat.{ℕ, _+_, _*_, _^_, _-_, _≤_}
+use mathlib.Core.Path.{_≡_}
+use mathlib.Core.List.{List, []}
+use Prim.Native.Nat.{ℕ, _+_, _*_, _^_, _-_, _≤_, _<_}
 use lib.Dec.{ltb}
 use lib.IntN.{ℤ, pos, natAbs}
 use lib.ListN.{length, getD}
@@ -9,7 +10,8 @@ use lib.Signed.{_≤ℤ_}
 use Rattle.polynomials.specs.Numbers.{nats}
 use Rattle.polynomials.specs.Sum.{sum}
 use Rattle.polynomials.specs.Order.{powers, size}
-use Rattle.polynomials.specs.Limits.{farthest, highestDegree}
+use Rattle.polynomials.specs.Limits.{cap, farthest, highestDegree}
+use Rattle.layout.specs.Shape.{tableLength, cumulus}
 use Rattle.layout.specs.Numbers.{limitsSize, blockSize, pitchSize, sideSize}
 
 -- in a group, the powers of two reaches at a place
@@ -31,6 +33,19 @@ factorAt r k =
 -- where the number of term k stands in a table, for the block b and the piece n: a block has the low group, the high group and the side groups
 unfoldable pub termPlace : ℕ → ℕ → ℕ → ℕ
 termPlace b n k = limitsSize + blockSize * b + cond (ltb k pitchSize) (pitchSize * n + k) (pitchSize + k)
+
+-- term k of block b in the piece n, by the rows of factors
+abbrev pub weighing : List ℤ → List (List ℕ) → ℕ → ℕ → ℕ → ℕ
+weighing t rows b n k = natAbs (getD t (termPlace b n k) (pos 0)) * getD (getD rows n []) k 0
+
+-- what adding it to a sum asks
+pub record Addable (t : List ℤ) (rows : List (List ℕ)) (b n k sum : ℕ) : Type 0 where
+  pub whole : length t ≡ tableLength cumulus
+  pub block : b < cumulus .blocks
+  pub half : n < 2
+  pub term : k < terms
+  pub within : sum ≤ cap
+  pub factor : 1 ≤ getD (getD rows n []) k 0
 
 -- the magnitude at a place of block b
 abbrev pub sizeAt : List ℤ → ℕ → ℕ → ℕ

@@ -1,13 +1,14 @@
 // The weights of the coefficients, against the cap.
 ghost use mathlib.Core.Path.{_≡_};
-ghost use Prim.Native.Nat.{_<_};
+ghost use Prim.Native.Nat.{_+_, _<_};
 ghost use lib.IntN.{pos, natAbs};
 ghost use lib.ListN.{length, getD};
 ghost use Rattle.polynomials.specs.Sum.{listed};
+ghost use Rattle.polynomials.specs.Limits.{against};
 ghost use Rattle.layout.specs.Shape.{cumulus};
 ghost use Rattle.layout.specs.Sound.{withinCap};
 ghost use Rattle.weights.specs.Reaches.{reachesOf, Reaching, Checkable};
-ghost use Rattle.weights.specs.Terms.{product, factorAt, termPlace, terms, Fillable};
+ghost use Rattle.weights.specs.Terms.{product, factorAt, termPlace, terms, weighing, Fillable, Addable};
 use layout::BLOCK;
 use layout::BLOCKS;
 use layout::LIMITS;
@@ -73,6 +74,22 @@ fn term_place(block: usize, piece: usize, term: usize) -> usize
     start + PITCH + term
 }
 
+// The sum with one term more: its magnitude times its factor.
+fn with_term(
+    sum: u64,
+    table: &[i64],
+    rows: &[[u64; TERMS]; PIECES],
+    block: usize,
+    piece: usize,
+    term: usize,
+) -> Weighed
+    requires { ⌜ Addable (now table) (now rows) block piece term sum ⌝ }
+    ensures { λ r. ⌜ r ≡ against (sum + weighing (now (table .entry)) (now (rows .entry)) block piece term) ⌝ }
+{
+    let at = term_place(block, piece, term);
+    polynomials::add_term(sum, table[at], rows[piece][term])
+}
+
 // Whether every coefficient's weight in both pieces is within the cap, at the given reaches. It leaves at the first block
 // and piece whose weight passes.
 pub fn each_within(table: &[i64], low: [i64; VARIABLES], high: [i64; VARIABLES]) -> bool
@@ -85,9 +102,7 @@ pub fn each_within(table: &[i64], low: [i64; VARIABLES], high: [i64; VARIABLES])
         for piece in 0..PIECES {
             let mut sum: u64 = 0;
             for term in 0..TERMS {
-                let at = term_place(block, piece, term);
-                let factor = rows[piece][term];
-                let Weighed::Within(more) = polynomials::add_term(sum, table[at], factor) else {
+                let Weighed::Within(more) = with_term(sum, table, &rows, block, piece, term) else {
                     ok = false;
                     break 'blocks;
                 };

@@ -1,19 +1,16 @@
 -- `weights::each_within` meets its contract. The loops' invariants: the blocks and the pieces passed are within the cap, and the sum is that of the terms passed.
 -- Where one term more passes the cap, the whole weight does, and so not all are within it. Assumes nothing.
-use mathlib.Core.Path.{_≡_, sym, _∙_, ap, ap₂, subst}
+use mathlib.Core.Path.{_≡_, sym, _∙_, ap, subst}
 use mathlib.Core.Bool.{Bool, true, false}
 use mathlib.Core.List.{List, [], _∷_}
 use Prim.Native.Nat.{ℕ, zero, suc, _+_, _*_, _-_, _≤_, _<_}
 use native.Mathlib.Numerals.{add-one}
 use native.Mathlib.Omega.{arith}
-use borrow.Author.Needs.{needs, sfits-of}
+use borrow.Author.Needs.{needs}
 use borrow.Author.Tests.{le-leb, lt-leb}
 use lib.Dec.{leb}
 use lib.IntN.{ℤ, pos, natAbs}
 use lib.ListN.{getD}
-use mir.Syntax.{w64}
-use mir.Val.{toZ, ofZ}
-use mir.Facts.{toZ-ofZ}
 use Rattle.polynomials.specs.Numbers.{nats}
 use Rattle.polynomials.specs.Sum.{sum as Σ}
 use Rattle.polynomials.specs.Limits.{cap, against}
@@ -24,22 +21,17 @@ use Rattle.polynomials.proofs.Listed.{getD-listed}
 use Rattle.polynomials.proofs.Bounds.{sum-part}
 use Rattle.polynomials.proofs.Cap.{within-against, passed-against}
 use Rattle.layout.specs.Shape.{cumulus}
-use Rattle.layout.specs.Numbers.{tableSize}
 use Rattle.layout.specs.Limits.{every}
 use Rattle.layout.specs.Blocks.{Piece, piece, coefficient}
 use Rattle.layout.specs.Sound.{withinCap}
 use Rattle.weights.specs.Reaches.{reachesOf}
-use Rattle.weights.specs.Terms.{terms, factorAt, termPlace}
-use Rattle.layout.proofs.Sizes.{table-size}
+use Rattle.weights.specs.Terms.{terms, factorAt, termPlace, weighing}
 use Rattle.layout.proofs.Tests.{every-none, every-more, every-stops, every-ext}
-use Rattle.weights.proofs.Terms.{place-bound, positive, weight-terms}
+use Rattle.weights.proofs.Terms.{positive, weight-terms}
 use Rattle.weights.proofs.each_within.Statement.{statement}
 use Rattle.weights.proofs.each_within.Tie as tie
 
--- term k of a block in a piece, by the rows of factors, and whether its terms are within the cap
-abbrev weighing : List ℤ → List (List ℕ) → ℕ → ℕ → ℕ → ℕ
-weighing t rows b n k = natAbs (getD t (termPlace b n k) (pos 0)) * getD (getD rows n []) k 0
-
+-- whether the terms of a block in a piece, by the rows of factors, are within the cap
 abbrev fits : List ℤ → List (List ℕ) → ℕ → ℕ → Bool
 fits t rows b n = leb (Σ nats terms (weighing t rows b n)) cap
 
@@ -108,44 +100,22 @@ module _ (l : tie.At-loop2 Inv-loop2 μ-loop2 Inv-loop μ-loop Inv-blocks2 μ-bl
   abbrev blocks : tie.At-blocks2 Inv-loop2 μ-loop2 Inv-loop μ-loop Inv-blocks2 μ-blocks2
   blocks = pieces .before .before
 
-  abbrev place : ℕ → ℕ
-  place = termPlace (blocks .blocks2 .block) (pieces .loop .piece)
-
   abbrev weights : ℕ → ℕ
   weights = weighing (table (blocks .before)) (rows (blocks .before)) (blocks .blocks2 .block) (pieces .loop .piece)
 
-inside : (c : tie.After-term-place Inv-loop2 μ-loop2 Inv-loop μ-loop Inv-blocks2 μ-blocks2) → c .term-place .result < tableSize
-inside c =
-    let l = c .before .before in
-    subst (λ p. p < tableSize) (sym (c .term-place .ensures))
-    (place-bound (blocks l .blocks2 .block) (pieces l .loop .piece) (l .loop2 .term) (omega arith) (omega arith) (omega arith))
-
--- ---- at the call of `add_term`: what it is asked of is the sum with one term more
-module _ (c : tie.After-add-term Inv-loop2 μ-loop2 Inv-loop μ-loop Inv-blocks2 μ-blocks2) where
+-- ---- at the call of `with_term`: what it says is of the sum with one term more
+module _ (c : tie.After-with-term Inv-loop2 μ-loop2 Inv-loop μ-loop Inv-blocks2 μ-blocks2) where
   abbrev here : tie.At-loop2 Inv-loop2 μ-loop2 Inv-loop μ-loop Inv-blocks2 μ-blocks2
-  here = c .before .before .before .before .before
-
-  abbrev numbers : List ℤ
-  numbers = table (blocks here .before)
-
-  abbrev at : ℕ
-  at = c .before .before .before .term-place .result
+  here = c .before .before .before
 
   abbrev more : ℕ
   more = Σ nats (here .loop2 .term + 1) (weights here)
 
-  number-is : toZ w64 (ofZ w64 (getD numbers at (pos 0))) ≡ getD numbers (place here (here .loop2 .term)) (pos 0)
-  number-is =
-      toZ-ofZ (sfits-of {z = getD numbers at (pos 0)} (c .before .add-term-arg .given)) ∙ ap (λ p. getD numbers p (pos 0)) (c .before .before .before .term-place .ensures)
-
   one-more : Σ nats (here .loop2 .term) (weights here) + weights here (here .loop2 .term) ≡ more
   one-more = sym (ap (λ n. Σ nats n (weights here)) (add-one (here .loop2 .term)) ∙ sum-suc natural (here .loop2 .term) (weights here))
 
-  result-is : c .add-term .result ≡ against more
-  result-is =
-      c .add-term .ensures
-      ∙ ap against
-      (ap₂ (λ s z. s + natAbs z * getD (getD (rows (blocks here .before)) (pieces here .loop .piece) []) (here .loop2 .term) 0) (here .loop2 .inv .2) number-is ∙ one-more)
+  result-is : c .with-term .result ≡ against more
+  result-is = c .with-term .ensures ∙ ap against (ap (λ s. s + weights here (here .loop2 .term)) (here .loop2 .inv .2) ∙ one-more)
 
 factors-requires :
     tie.Need-factors-requires Inv-loop2 μ-loop2 Inv-loop μ-loop Inv-blocks2 μ-blocks2
@@ -164,34 +134,18 @@ loop-holds c = (search needs, every-none _, search needs)
 loop2-holds : tie.Need-loop2-holds Inv-loop2 μ-loop2 Inv-loop μ-loop Inv-blocks2 μ-blocks2
 loop2-holds c = (search needs, search needs, sym (sum-zero natural _), search needs)
 
-term-place-requires :
-    tie.Need-term-place-requires Inv-loop2 μ-loop2 Inv-loop μ-loop Inv-blocks2 μ-blocks2
-term-place-requires c κs = search needs
-
-mul-factor : tie.Need-mul-factor Inv-loop2 μ-loop2 Inv-loop μ-loop Inv-blocks2 μ-blocks2
-mul-factor c = search needs
-
-mul-factor-2 : tie.Need-mul-factor-2 Inv-loop2 μ-loop2 Inv-loop μ-loop Inv-blocks2 μ-blocks2
-mul-factor-2 c = search needs
-
-index-1-factor : tie.Need-index-1-factor Inv-loop2 μ-loop2 Inv-loop μ-loop Inv-blocks2 μ-blocks2
-index-1-factor c = search needs
-
-index-2-factor : tie.Need-index-2-factor Inv-loop2 μ-loop2 Inv-loop μ-loop Inv-blocks2 μ-blocks2
-index-2-factor c = search needs
-
-mul-add-term : tie.Need-mul-add-term Inv-loop2 μ-loop2 Inv-loop μ-loop Inv-blocks2 μ-blocks2
-mul-add-term c = omega (arith, inside (c .before))
-
-shared-slice-copy-out-add-term :
-    tie.Need-shared-slice-copy-out-add-term Inv-loop2 μ-loop2 Inv-loop μ-loop Inv-blocks2 μ-blocks2
-shared-slice-copy-out-add-term c = omega (arith, inside (c .before), table-size, start (blocks (c .before .before .before) .before) .pre .whole)
-
-add-term-requires :
-    tie.Need-add-term-requires Inv-loop2 μ-loop2 Inv-loop μ-loop Inv-blocks2 μ-blocks2
-add-term-requires c κs =
-    let l = c .before .before .before .before in
-    (l .loop2 .inv .1, row-positive (blocks l .before) (pieces l .loop .piece) (l .loop2 .term) (omega arith) (omega arith))
+with-term-requires : tie.Need-with-term-requires Inv-loop2 μ-loop2 Inv-loop μ-loop Inv-blocks2 μ-blocks2
+with-term-requires c κs =
+    let l = c .before .before in
+    let a = blocks l .before in
+    record {
+      whole = start a .pre .whole;
+      block = omega arith;
+      half = omega arith;
+      term = omega arith;
+      within = l .loop2 .inv .1;
+      factor = row-positive a (pieces l .loop .piece) (l .loop2 .term) (omega arith) (omega arith);
+    }
 
 enum-known-more : tie.Need-enum-known-more Inv-loop2 μ-loop2 Inv-loop μ-loop Inv-blocks2 μ-blocks2
 enum-known-more c = search needs
@@ -273,14 +227,7 @@ each-within-spec =
     blocks2-holds
     loop-holds
     loop2-holds
-    term-place-requires
-    mul-factor
-    mul-factor-2
-    index-1-factor
-    index-2-factor
-    mul-add-term
-    shared-slice-copy-out-add-term
-    add-term-requires
+    with-term-requires
     enum-known-more
     enum-told
     add-term
