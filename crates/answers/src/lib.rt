@@ -164,27 +164,18 @@ pub fn feed(table: &[i64], reading: Reading, input: &[u8], out: &mut [u8]) -> Fe
     ensures { λ r. ⌜ Feeding (now (table .entry)) reading (now (input .entry)) (now (out .entry)) (now (out .exit)) r ⌝ }
 {
     let refused = refusal_of(table);
-    let mut current = reading;
-    let mut taken: usize = 0;
-    let mut put: usize = 0;
-    while taken < input.len() {
-        if out.len() - put < LONGEST {
-            return Fed {
-                reading: current,
-                taken,
-                put,
-            };
+    let mut fed = Fed {
+        reading,
+        taken: 0,
+        put: 0,
+    };
+    while fed.taken < input.len() {
+        if out.len() - fed.put < LONGEST {
+            return fed;
         }
-        let fed = take_line(table, refused, current, input, taken, out, put);
-        current = fed.reading;
-        taken = fed.taken;
-        put = fed.put;
+        fed = take_line(table, refused, fed.reading, input, fed.taken, out, fed.put);
     }
-    Fed {
-        reading: current,
-        taken,
-        put,
-    }
+    fed
 }
 
 // At the end of the input: writes the answer to a last line that no newline ends, and gives its length. Writes nothing where there is no

@@ -19,17 +19,17 @@ use Rattle.answers.proofs.feed.Statement.{statement}
 use Rattle.answers.proofs.feed.Tie as tie
 
 abbrev Inv-loop : tie.InvT-loop
-Inv-loop table input out₀ refused current₀ taken₀ put₀ out current taken put =
-    (taken ≤ length input)
+Inv-loop table input out₀ refused fed₀ out fed =
+    (fed .taken ≤ length input)
     × (length out ≡ length out₀)
-    × (current ≡ readingsAfter current₀ (take taken input))
-    × (put ≡ length (answersOf table current₀ (take taken input)))
-    × (put ≤ length out₀)
-    × (out ≡ written out₀ 0 (answersOf table current₀ (take taken input)))
-    × ((i : ℕ) → i < taken → length (answersOf table current₀ (take i input)) + longest ≤ length out₀)
+    × (fed .reading ≡ readingsAfter (fed₀ .reading) (take (fed .taken) input))
+    × (fed .put ≡ length (answersOf table (fed₀ .reading) (take (fed .taken) input)))
+    × (fed .put ≤ length out₀)
+    × (out ≡ written out₀ 0 (answersOf table (fed₀ .reading) (take (fed .taken) input)))
+    × ((i : ℕ) → i < fed .taken → length (answersOf table (fed₀ .reading) (take i input)) + longest ≤ length out₀)
 
 abbrev μ-loop : tie.MeasureT-loop
-μ-loop table input out₀ refused current₀ taken₀ put₀ out current taken put = length input - taken
+μ-loop table input out₀ refused fed₀ out fed = length input - fed .taken
 
 refusal-of-requires : tie.Need-refusal-of-requires Inv-loop μ-loop
 refusal-of-requires c κs = search needs
@@ -37,26 +37,26 @@ refusal-of-requires c κs = search needs
 loop-holds : tie.Need-loop-holds Inv-loop μ-loop
 loop-holds c = (omega arith, refl, refl, refl, omega arith, refl, λ i h. absurd (omega arith))
 
-sub-if1 : tie.Need-sub-if1 Inv-loop μ-loop
-sub-if1 c = search needs
+sub-if2 : tie.Need-sub-if2 Inv-loop μ-loop
+sub-if2 c = search needs
 
 same-length : tie.Need-same-length Inv-loop μ-loop
 same-length c = search needs
 
 returns : tie.Need-returns Inv-loop μ-loop
 returns c =
-    let l = c .before .before .loop in
-    record { within = l .inv .0; reading = l .inv .2; place = l .inv .3; output = l .inv .5; room = l .inv .4; roomy = l .inv .6; full = λ h. omega (arith, c .if1 .taken, l .inv .1) }
+    let l = c .before .before .before .before .loop in
+    record { within = l .inv .0; reading = l .inv .2; place = l .inv .3; output = l .inv .5; room = l .inv .4; roomy = l .inv .6; full = λ h. omega (arith, c .if2 .taken, l .inv .1) }
 
 take-line-requires : tie.Need-take-line-requires Inv-loop μ-loop
 take-line-requires c κs =
-    let l = c .before .before .before in
-    record { known = l .before .refusal-of .ensures; byte = c .before .before .loop-test .taken; room = omega (arith, c .before .if1 .left, l .loop .inv .1, l .loop .inv .4) }
+    let l = c .before .before .before .before .before in
+    record { known = l .before .refusal-of .ensures; byte = c .before .before .before .if1 .taken; room = omega (arith, c .before .if2 .left, l .loop .inv .1, l .loop .inv .4) }
 
 -- ---- a turn, with the reading that the bytes before it leave
 module _ (c : tie.After-take-line Inv-loop μ-loop) where
   abbrev at : tie.At-loop Inv-loop μ-loop
-  at = c .before .before .before .before
+  at = c .before .before .before .before .before .before
 
   abbrev begin : tie.Start Inv-loop μ-loop
   begin = at .before .before .before .before
@@ -68,13 +68,13 @@ module _ (c : tie.After-take-line Inv-loop μ-loop) where
   input = begin .args .input .now
 
   abbrev from : ℕ
-  from = at .loop .taken
+  from = at .loop .fed .taken
 
   abbrev fed : Fed
   fed = c .take-line .result
 
-  turn : Taken table (readingsAfter (begin .args .reading) (take from input)) input from (at .loop .out) (c .take-line .last .1 .1 .1 .1 .1 .0) (at .loop .put) fed
-  turn = subst (λ r. Taken table r input from (at .loop .out) (c .take-line .last .1 .1 .1 .1 .1 .0) (at .loop .put) fed) (at .loop .inv .2) (c .take-line .ensures)
+  turn : Taken table (readingsAfter (begin .args .reading) (take from input)) input from (at .loop .out) (c .take-line .last .1 .1 .1 .1 .1 .0) (at .loop .fed .put) fed
+  turn = subst (λ r. Taken table r input from (at .loop .out) (c .take-line .last .1 .1 .1 .1 .1 .0) (at .loop .fed .put) fed) (at .loop .inv .2) (c .take-line .ensures)
 
   -- the answers before it, and its own
   abbrev before : List ℕ
@@ -86,8 +86,8 @@ module _ (c : tie.After-take-line Inv-loop μ-loop) where
   joined : (end : ℕ) → from ≤ end → before ++ own end ≡ answersOf table (begin .args .reading) (take end input)
   joined = joined-answers table (begin .args .reading) input from
 
-  room : at .loop .put + longest ≤ length (begin .args .out .now)
-  room = omega (arith, c .before .before .if1 .left, at .loop .inv .1, at .loop .inv .4)
+  room : at .loop .fed .put + longest ≤ length (begin .args .out .now)
+  room = omega (arith, c .before .before .if2 .left, at .loop .inv .1, at .loop .inv .4)
 
   place : fed .put ≡ length (before ++ own (fed .taken))
   place = omega (arith, turn .place, at .loop .inv .3, length-append before (own (fed .taken)))
@@ -112,11 +112,11 @@ module _ (c : tie.After-take-line Inv-loop μ-loop) where
           omega (arith, ap length e, at .loop .inv .3, room)
 
 loop-less : tie.Need-loop-less Inv-loop μ-loop
-loop-less c = let d = c .before .before .before in omega (arith, turn d .forward, turn d .within)
+loop-less c = let d = c .before .before in omega (arith, turn d .forward, turn d .within)
 
 loop-again : tie.Need-loop-again Inv-loop μ-loop
 loop-again c =
-    let d = c .before .before .before in
+    let d = c .before .before in
     let end = fed d .taken in
     let forward : from d ≤ end = omega (arith, turn d .forward) in (
       turn d .within,
@@ -133,8 +133,8 @@ same-length-2 c = search needs
 
 returns-2 : tie.Need-returns-2 Inv-loop μ-loop
 returns-2 c =
-    let l = c .before .loop in
-    record { within = l .inv .0; reading = l .inv .2; place = l .inv .3; output = l .inv .5; room = l .inv .4; roomy = l .inv .6; full = λ h. absurd (omega (arith, c .loop-test .left)) }
+    let l = c .before .before .loop in
+    record { within = l .inv .0; reading = l .inv .2; place = l .inv .3; output = l .inv .5; room = l .inv .4; roomy = l .inv .6; full = λ h. absurd (omega (arith, c .if1 .left)) }
 
 pub feed-spec : {M : Type 1} → statement M
 feed-spec =
@@ -144,7 +144,7 @@ feed-spec =
     μ-loop
     refusal-of-requires
     loop-holds
-    sub-if1
+    sub-if2
     same-length
     returns
     take-line-requires
