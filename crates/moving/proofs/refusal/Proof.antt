@@ -50,7 +50,7 @@ size-is : (c : tie.After-magnitude) → c .magnitude .result ≡ natAbs (s (c .b
 size-is c = c .magnitude .ensures ∙ ap natAbs (shift-is (c .before))
 
 near : (c : tie.Else1) → natAbs (s (c .before .before)) ≤ longestShift
-near c = subst (λ n. n ≤ longestShift) (size-is (c .before)) (c .if1 .left)
+near c = omega (arith, size-is (c .before), c .if1 .left)
 
 -- the moved limits, as they come back
 module _ (c : tie.After-moved) where
