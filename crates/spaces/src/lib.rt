@@ -10,7 +10,7 @@ mod rooms;
 mod uses;
 
 ghost use Prim.Native.Nat.{_≤_};
-ghost use Rattle.texts.specs.Room.{room};
+ghost use Rattle.texts.specs.Room.{answersRoom};
 use commands::Command;
 use commands::command_of;
 use keeping::keep;
@@ -63,7 +63,7 @@ pub fn answer(
     out: &mut [u8; OUT],
     at: usize,
 ) -> usize
-    ensures { λ r. ⌜ r ≤ room ⌝ }
+    ensures { λ r. ⌜ r ≤ answersRoom ⌝ }
 {
     let end = answered(line, held, spaces, out, at);
     put_byte(b'\n', out, end)

@@ -1,7 +1,7 @@
 // The operations of the library. Each is lent a room of its own, and a space changes only with a 0.
 ghost use Prim.Native.Nat.{_≤_};
 ghost use lib.ListN.{length as size};
-ghost use Rattle.spaces.specs.Sizes.{allSpaces, margin, room};
+ghost use Rattle.spaces.specs.Sizes.{allSpaces, margin, spaceRoom};
 use super::drawing::checksum;
 use super::floats::floats_of;
 use super::floats::put_answer;
@@ -96,7 +96,7 @@ fn moved(
     lent: &mut [i64],
     end: usize,
 ) -> u64
-    requires { ⌜ length ≤ room ⌝ }
+    requires { ⌜ length ≤ spaceRoom ⌝ }
     requires { ⌜ allSpaces ≤ size (now spaces) ⌝ }
     requires { ⌜ (margin ≤ end) × (end ≤ size (now lent)) ⌝ }
 {
@@ -135,7 +135,7 @@ fn values(
     lent: &mut [i64],
     end: usize,
 ) -> u64
-    requires { ⌜ length ≤ room ⌝ }
+    requires { ⌜ length ≤ spaceRoom ⌝ }
     requires { ⌜ allSpaces ≤ size (now spaces) ⌝ }
     requires { ⌜ (margin ≤ end) × (end ≤ size (now lent)) ⌝ }
 {
@@ -171,7 +171,7 @@ fn read(
 }
 
 fn float_answer(space: u64, length: usize, readings: [f64; VARIABLES], spaces: &[i64]) -> Answer
-    requires { ⌜ length ≤ room ⌝ }
+    requires { ⌜ length ≤ spaceRoom ⌝ }
     requires { ⌜ allSpaces ≤ size (now spaces) ⌝ }
 {
     let first = start_of(space);

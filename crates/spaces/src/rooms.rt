@@ -1,6 +1,6 @@
 // The spaces, one behind the other: each is its length and room for its numbers.
 ghost use Prim.Native.Nat.{_+_, _≤_};
-ghost use Rattle.spaces.specs.Sizes.{allSpaces, room};
+ghost use Rattle.spaces.specs.Sizes.{allSpaces, spaceRoom};
 use texts::least;
 
 pub const SPACES: usize = 10;
@@ -13,13 +13,13 @@ pub const ALL: usize = SPACES * SPACE;
 
 // Where the length of a space stands; its numbers stand behind it.
 pub fn place_of(space: u64) -> usize
-    ensures { λ r. ⌜ r + (1 + room) ≤ allSpaces ⌝ }
+    ensures { λ r. ⌜ r + (1 + spaceRoom) ≤ allSpaces ⌝ }
 {
     least(space as usize, SPACES - 1) * SPACE
 }
 
 pub fn length_of(space: u64, spaces: &[i64; ALL]) -> usize
-    ensures { λ r. ⌜ r ≤ room ⌝ }
+    ensures { λ r. ⌜ r ≤ spaceRoom ⌝ }
 {
     let length = spaces[place_of(space)];
     least(whole::magnitude(length) as usize, ROOM)
@@ -27,7 +27,7 @@ pub fn length_of(space: u64, spaces: &[i64; ALL]) -> usize
 
 // Where the numbers of a space start.
 pub fn start_of(space: u64) -> usize
-    ensures { λ r. ⌜ r + room ≤ allSpaces ⌝ }
+    ensures { λ r. ⌜ r + spaceRoom ≤ allSpaces ⌝ }
 {
     place_of(space) + 1
 }

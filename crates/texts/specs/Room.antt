@@ -1,5 +1,5 @@
 -- The room for answers, in bytes.
 use Prim.Native.Nat.{ℕ}
 
-abbrev pub room : ℕ
-room = 65536
+abbrev pub answersRoom : ℕ
+answersRoom = 65536

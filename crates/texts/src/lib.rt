@@ -3,7 +3,7 @@
 ghost use mathlib.Core.Path.{_≡_};
 ghost use Prim.Native.Nat.{_≤_, min};
 ghost use Rattle.texts.specs.Held.{heldAfter, lineAfter};
-ghost use Rattle.texts.specs.Room.{room};
+ghost use Rattle.texts.specs.Room.{answersRoom};
 
 // The room for answers.
 pub const OUT: usize = 65536;
@@ -33,7 +33,7 @@ pub fn least(a: usize, b: usize) -> usize
 }
 
 pub fn put_text(text: &[u8], out: &mut [u8; OUT], at: usize) -> usize
-    ensures { λ r. ⌜ r ≤ room ⌝ }
+    ensures { λ r. ⌜ r ≤ answersRoom ⌝ }
 {
     let start = least(at, OUT);
     let count = least(text.len(), OUT - start);
@@ -46,7 +46,7 @@ pub fn put_text(text: &[u8], out: &mut [u8; OUT], at: usize) -> usize
 }
 
 pub fn put_byte(byte: u8, out: &mut [u8; OUT], at: usize) -> usize
-    ensures { λ r. ⌜ r ≤ room ⌝ }
+    ensures { λ r. ⌜ r ≤ answersRoom ⌝ }
 {
     if at >= OUT {
         return OUT;
@@ -56,7 +56,7 @@ pub fn put_byte(byte: u8, out: &mut [u8; OUT], at: usize) -> usize
 }
 
 pub fn put_natural(n: u64, out: &mut [u8; OUT], at: usize) -> usize
-    ensures { λ r. ⌜ r ≤ room ⌝ }
+    ensures { λ r. ⌜ r ≤ answersRoom ⌝ }
 {
     let mut digits = [0u8; 20];
     let count = io::decimal(n, &mut digits);
@@ -64,7 +64,7 @@ pub fn put_natural(n: u64, out: &mut [u8; OUT], at: usize) -> usize
 }
 
 fn put_signed(x: i64, out: &mut [u8; OUT], at: usize) -> usize
-    ensures { λ r. ⌜ r ≤ room ⌝ }
+    ensures { λ r. ⌜ r ≤ answersRoom ⌝ }
 {
     let size = whole::magnitude(x);
     if x < 0 {
@@ -76,7 +76,7 @@ fn put_signed(x: i64, out: &mut [u8; OUT], at: usize) -> usize
 
 // A natural number behind a text.
 pub fn put_named(text: &[u8], n: u64, out: &mut [u8; OUT], at: usize) -> usize
-    ensures { λ r. ⌜ r ≤ room ⌝ }
+    ensures { λ r. ⌜ r ≤ answersRoom ⌝ }
 {
     let next = put_text(text, out, at);
     put_natural(n, out, next)
@@ -84,7 +84,7 @@ pub fn put_named(text: &[u8], n: u64, out: &mut [u8; OUT], at: usize) -> usize
 
 // A space and a bit pattern.
 pub fn put_bits(pattern: u64, out: &mut [u8; OUT], at: usize) -> usize
-    ensures { λ r. ⌜ r ≤ room ⌝ }
+    ensures { λ r. ⌜ r ≤ answersRoom ⌝ }
 {
     let mut digits = [0u8; 16];
     let count = io::hex(pattern, 1, &mut digits);
@@ -94,7 +94,7 @@ pub fn put_bits(pattern: u64, out: &mut [u8; OUT], at: usize) -> usize
 
 // A number, and a space before it where it is not the first.
 fn put_number(x: i64, is_first: bool, out: &mut [u8; OUT], at: usize) -> usize
-    ensures { λ r. ⌜ r ≤ room ⌝ }
+    ensures { λ r. ⌜ r ≤ answersRoom ⌝ }
 {
     if is_first {
         return put_signed(x, out, at);
@@ -111,7 +111,7 @@ pub fn put_numbers(
     out: &mut [u8; OUT],
     at: usize,
 ) -> usize
-    ensures { λ r. ⌜ r ≤ room ⌝ }
+    ensures { λ r. ⌜ r ≤ answersRoom ⌝ }
 {
     let stop = least(end, numbers.len());
     let mut put = least(at, OUT);

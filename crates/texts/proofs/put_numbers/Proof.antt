@@ -1,12 +1,12 @@
 -- `texts::put_numbers` meets its contract: the end stays within the room. Assumes nothing.
 use Prim.Native.Nat.{_≤_, _-_}
-use Rattle.texts.specs.Room.{room}
+use Rattle.texts.specs.Room.{answersRoom}
 use borrow.Author.Needs.{needs}
 use Rattle.texts.proofs.put_numbers.Statement.{statement}
 use Rattle.texts.proofs.put_numbers.Tie as tie
 
 abbrev Inv-loop : tie.InvT-loop
-Inv-loop numbers from end out₀ at stop put₀ k₀ out put k = (put ≤ room)
+Inv-loop numbers from end out₀ at stop put₀ k₀ out put k = (put ≤ answersRoom)
 
 abbrev μ-loop : tie.MeasureT-loop
 μ-loop numbers from end out₀ at stop put₀ k₀ out put k = stop - k

@@ -1,15 +1,15 @@
 -- `spaces::lent::store` meets its contract: the loop counts up to the room of a space. Assumes nothing.
 use Prim.Native.Nat.{_≤_, _-_}
-use Rattle.spaces.specs.Sizes.{room}
+use Rattle.spaces.specs.Sizes.{spaceRoom}
 use borrow.Author.Needs.{needs}
 use Rattle.spaces.proofs.lent.store.Statement.{statement}
 use Rattle.spaces.proofs.lent.store.Tie as tie
 
 abbrev Inv-loop : tie.InvT-loop
-Inv-loop lent into spaces₀ start k₀ spaces k = (k ≤ room)
+Inv-loop lent into spaces₀ start k₀ spaces k = (k ≤ spaceRoom)
 
 abbrev μ-loop : tie.MeasureT-loop
-μ-loop lent into spaces₀ start k₀ spaces k = room - k
+μ-loop lent into spaces₀ start k₀ spaces k = spaceRoom - k
 
 start-of-requires : tie.Need-start-of-requires Inv-loop μ-loop
 start-of-requires c κs = search needs

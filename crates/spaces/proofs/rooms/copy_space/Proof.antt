@@ -1,15 +1,15 @@
 -- `spaces::rooms::copy_space` meets its contract: the loop counts up to the end of a space. Assumes nothing.
 use Prim.Native.Nat.{_≤_, _+_, _-_}
-use Rattle.spaces.specs.Sizes.{room}
+use Rattle.spaces.specs.Sizes.{spaceRoom}
 use borrow.Author.Needs.{needs}
 use Rattle.spaces.proofs.rooms.copy_space.Statement.{statement}
 use Rattle.spaces.proofs.rooms.copy_space.Tie as tie
 
 abbrev Inv-loop : tie.InvT-loop
-Inv-loop space into spaces₀ from to k₀ spaces k = (k ≤ 1 + room)
+Inv-loop space into spaces₀ from to k₀ spaces k = (k ≤ 1 + spaceRoom)
 
 abbrev μ-loop : tie.MeasureT-loop
-μ-loop space into spaces₀ from to k₀ spaces k = 1 + room - k
+μ-loop space into spaces₀ from to k₀ spaces k = 1 + spaceRoom - k
 
 place-of-requires : tie.Need-place-of-requires Inv-loop μ-loop
 place-of-requires c κs = search needs
