@@ -86,6 +86,9 @@ same p q = p ∙ sym q
 pub magnitude-tight : Tight whole.magnitude.ended whole.magnitude.Reads.Post
 magnitude-tight κs a o p = tight o p (search same)
 
+pub nearest-away-tight : Tight whole.nearest_away.ended whole.nearest_away.Reads.Post
+nearest-away-tight κs a o p = tight o p (search same)
+
 -- ════ polynomials
 at-place : (w : Powers) → powers (place (w .first) (w .second)) ≡ w
 at-place w = let e = powers-place (w .first) (w .second) in λ i. record { first = e .0 i; second = e .1 i }

@@ -1,11 +1,13 @@
--- One-line facts by `Identity` and `Linear`, one for each thing they read, and what `Solver` refuses.
+-- One-line facts by `Identity` and `Linear`, one for each thing they read, what `Solver` refuses, and how halves are rounded.
 use mathlib.Core.Path.{_≡_, refl}
 use mathlib.Core.Bool.{false}
+use mathlib.Core.List.{[], _∷_, map}
 use Prim.Native.Nat.{ℕ, _≤_}
 use lib.IntN.{ℤ, pos, negsuc, negℤ, natAbs, _+ℤ_, _-ℤ_, _*ℤ_, pow}
 use lib.Signed.{_≤ℤ_, _<ℤ_}
 use mir.Syntax.{w64}
 use mir.Val.{SFits}
+use Rattle.whole.specs.Nearest.{nearestAway}
 use Rattle.whole.proofs.Solver.{atom, lit, neglit, _⊕_, _⊝_, _⊗_, ⊖_, _↑_, same}
 use Rattle.whole.proofs.Identity.{quote, quote-pos, quote-negsuc, quote-minus, by, by-eq, ring1, ring2, ring3, ring4, ring5, ring6}
 use Rattle.whole.proofs.Linear.{zarith, quote-natAbs}
@@ -81,3 +83,13 @@ fits x = ring1 x (λ ρ e. simp (quote, quote-pos ρ, e) (omega zarith))
 
 least : natAbs (negsuc 9223372036854775807) ≡ 9223372036854775808
 least = refl
+
+-- ════ rounding: a half goes away from zero on both sides, and an odd divisor has no half
+halves : map (nearestAway 10) (pos 4 ∷ pos 5 ∷ pos 14 ∷ pos 15 ∷ pos 25 ∷ negsuc 3 ∷ negsuc 4 ∷ negsuc 13 ∷ negsuc 14 ∷ [])
+    ≡ pos 0 ∷ pos 1 ∷ pos 1 ∷ pos 2 ∷ pos 3 ∷ pos 0 ∷ negsuc 0 ∷ negsuc 0 ∷ negsuc 1 ∷ []
+unfolding nearestAway
+halves = refl
+
+thirds : map (nearestAway 3) (pos 0 ∷ pos 1 ∷ pos 2 ∷ pos 4 ∷ pos 5 ∷ negsuc 0 ∷ negsuc 1 ∷ []) ≡ pos 0 ∷ pos 0 ∷ pos 1 ∷ pos 1 ∷ pos 2 ∷ pos 0 ∷ negsuc 0 ∷ []
+unfolding nearestAway
+thirds = refl

@@ -6,6 +6,7 @@
 --   Solver      a normal form of polynomial expressions
 --   Identity    a polynomial identity in one line, by Solver
 --   Linear      a linear fact in one line, by `omega`
+--   Nearest     a quotient rounded to the nearest whole number
 --   Controls    what Identity and Linear prove, and what Solver refuses
 pub mod Ring
 pub mod Magnitudes
@@ -14,4 +15,5 @@ pub mod Machine
 pub mod Solver
 pub mod Identity
 pub mod Linear
+pub mod Nearest
 pub mod Controls
