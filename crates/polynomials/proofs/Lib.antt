@@ -9,6 +9,7 @@
 --   Unique      law 4: values determine the numbers
 --   Bounds      laws 5 and 6: what a weight bounds
 --   Together    law 7: any number of groups
+--   Downward    sums from the highest power down
 --   Cap, PowerRows, Spots   what the code's loops use: a sum against the cap, rows of powers, the places of one variable's powers
 --   controls    computed facts beside the definitions
 pub mod Semiring
@@ -21,6 +22,7 @@ pub mod Moves
 pub mod Unique
 pub mod Bounds
 pub mod Together
+pub mod Downward
 pub mod Cap
 pub mod PowerRows
 pub mod Spots
