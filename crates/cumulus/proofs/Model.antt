@@ -1,6 +1,7 @@
 -- The published table answers with the printed model.
 --   own-variables   each printed polynomial has only the two variables of its group, and at most its degree
---   group-at        such a polynomial has at every state the value of its group
+--   group-at        such a polynomial has at every state the value of its group, in any unit of angle
+--   held-total      the groups of a block that count in a piece come to (3) or (4), in any unit of angle
 --   values-model    the six values at any state are those of the report's equations (1), (3) and (4)
 --   read-model      inside the envelope these are what a reading with room for six leaves
 use mathlib.Core.Path.{_≡_, refl, sym, _∙_, ap, ap₂}
@@ -32,8 +33,8 @@ use Rattle.layout.specs.Reading.{values, readNumber, readOutput}
 use Rattle.layout.proofs.Tests.{&&-left, &&-right}
 use Rattle.layout.proofs.Refused.{read-given}
 use Rattle.cumulus.specs.Notation.{Monomial, Term, Polynomial, _⊕_}
-use Rattle.cumulus.specs.Model.{Coefficient, coefficients, totalDegree, scaled, monomialAt, at, pre, post, modelValue}
-use Rattle.cumulus.specs.Stored.{degreeIn, hasOnly, standsIn, storedTerm, stored, group, belongs, parts, byKind, eachBelongs}
+use Rattle.cumulus.specs.Model.{Coefficient, coefficients, Angles, milliradians, totalDegree, monomialAt, scaleIn, scaled, at, pre, post, modelValue}
+use Rattle.cumulus.specs.Stored.{degreeIn, hasOnly, standsIn, printedTerm, printedAt, degree, group, belongs, parts, byKind, eachBelongs}
 use Rattle.cumulus.specs.Published.{published}
 use Rattle.cumulus.specs.Envelope.{Envelope}
 use Rattle.cumulus.proofs.Envelope.{read-inside}
@@ -77,18 +78,19 @@ sum-one (suc n) j z g h = sum-suc whole n _ ∙ pick (sum-one n j z g) (decLt j 
         let counts : cond (eqb j n) z (pos 0) *ℤ g n ≡ z *ℤ g j = rw (eq-eqb j n e, e) in
         ap₂ _+ℤ_ (sum-nil whole n _ (λ i b. nothing i (λ d. omega arith))) counts ∙ +ℤ-idl (z *ℤ g j)
 
-module _ (k : Kind) (x : ℕ → ℤ) where
-  -- how many numbers the group has, and the powers of the readings at a place
+module _ (A : Angles) (k : Kind) (x : ℕ → ℤ) where
+  -- how many numbers the group has, and what stands behind the printed number at a place: its scale and the powers of the readings
   abbrev room : ℕ
   room = size (k .degree)
 
   abbrev here : ℕ → ℤ
-  here i = pow (x (k .u)) (powers i .first) *ℤ pow (x (k .v)) (powers i .second)
+  here i = pos (scaleIn A (degree (powers i))) *ℤ (pow (x (k .u)) (powers i .first) *ℤ pow (x (k .v)) (powers i .second))
 
-  here-place : (p q : ℕ) → here (place p q) ≡ pow (x (k .u)) p *ℤ pow (x (k .v)) q
-  here-place p q = ap₂ (λ a b. pow (x (k .u)) a *ℤ pow (x (k .v)) b) (powers-place p q .0) (powers-place p q .1)
+  here-place : (p q : ℕ) → here (place p q) ≡ pos (scaleIn A (p + q)) *ℤ (pow (x (k .u)) p *ℤ pow (x (k .v)) q)
+  here-place p q =
+      ap₂ (λ a b. pos (scaleIn A (a + b)) *ℤ (pow (x (k .u)) a *ℤ pow (x (k .v)) b)) (powers-place p q .0) (powers-place p q .1)
 
-  term-at : Own (k .u) (k .v) x → (t : Term) → standsIn k (t .monomial) ≡ true → sum ints room (λ i. storedTerm k i t *ℤ here i) ≡ scaled t *ℤ monomialAt (t .monomial) x
+  term-at : Own (k .u) (k .v) x → (t : Term) → standsIn k (t .monomial) ≡ true → sum ints room (λ i. printedTerm k i t *ℤ here i) ≡ scaled A t *ℤ monomialAt (t .monomial) x
   term-at own t s =
       let a = t .monomial in
       let p = degreeIn a (k .u) in
@@ -97,68 +99,72 @@ module _ (k : Kind) (x : ℕ → ℤ) where
       let d : totalDegree a ≤ k .degree = leb-true (totalDegree a) (k .degree) (&&-right (hasOnly k a) (leb (totalDegree a) (k .degree)) s) in
       let e : p + q ≡ totalDegree a = eqb-true (p + q) (totalDegree a) only in
       rw only
-      (sum-one room (place p q) (scaled t) here (place-below (suc (k .degree)) p q (omega arith)) ∙ ap (λ z. scaled t *ℤ z) (here-place p q ∙ sym (own a e)))
+      (sum-one room (place p q) (t .number) here (place-below (suc (k .degree)) p q (omega arith))
+      ∙ ap (λ z. t .number *ℤ z) (here-place p q ∙ ap₂ (λ n m. pos (scaleIn A n) *ℤ m) e (sym (own a e)))
+      ∙ sym (*ℤ-assoc (t .number) (pos (scaleIn A (totalDegree a))) (monomialAt a x)))
 
   -- ════ a polynomial
-  group-sum : (f : Polynomial) → valueOf (group k f) x ≡ sum ints room (λ i. stored k f i *ℤ here i)
+  group-sum : (f : Polynomial) → valueOf (group (scaleIn A) k f) x ≡ sum ints room (λ i. printedAt k f i *ℤ here i)
   unfolding evaluated term
   group-sum f =
-      ap (λ n. sum ints n (term ints (group k f .numbers) (x (k .u)) (x (k .v)))) (length-listed room _)
+      ap (λ n. sum ints n (term ints (group (scaleIn A) k f .numbers) (x (k .u)) (x (k .v)))) (length-listed room _)
       ∙ sum-ext whole room _ _ (λ i l.
-      ap (λ z. z *ℤ pow (x (k .u)) (powers i .first) *ℤ pow (x (k .v)) (powers i .second)) (getD-listed room _ i (pos 0) l)
-      ∙ *ℤ-assoc (stored k f i) (pow (x (k .u)) (powers i .first)) (pow (x (k .v)) (powers i .second)))
+      let u = pow (x (k .u)) (powers i .first) in
+      let v = pow (x (k .v)) (powers i .second) in
+      let s = pos (scaleIn A (degree (powers i))) in
+      ap (λ z. z *ℤ u *ℤ v) (getD-listed room _ i (pos 0) l) ∙ *ℤ-assoc (printedAt k f i *ℤ s) u v ∙ *ℤ-assoc (printedAt k f i) s (u *ℤ v))
 
-  terms-at : Own (k .u) (k .v) x → (f : Polynomial) → belongs k f ≡ true → sum ints room (λ i. stored k f i *ℤ here i) ≡ at f x
+  terms-at : Own (k .u) (k .v) x → (f : Polynomial) → belongs k f ≡ true → sum ints room (λ i. printedAt k f i *ℤ here i) ≡ at A f x
   unfolding at
   terms-at own [] b = sum-nil whole room _ (λ i l. nil-mul whole (here i))
   terms-at own (t ∷ f) b =
-      sum-ext whole room _ _ (λ i l. add-mul whole (storedTerm k i t) (stored k f i) (here i))
-      ∙ sum-add whole room (λ i. storedTerm k i t *ℤ here i) (λ i. stored k f i *ℤ here i)
+      sum-ext whole room _ _ (λ i l. add-mul whole (printedTerm k i t) (printedAt k f i) (here i))
+      ∙ sum-add whole room (λ i. printedTerm k i t *ℤ here i) (λ i. printedAt k f i *ℤ here i)
       ∙ ap₂ _+ℤ_
       (term-at own t (&&-left (standsIn k (t .monomial)) (belongs k f) b))
       (terms-at own f (&&-right (standsIn k (t .monomial)) (belongs k f) b))
 
-  pub group-at : Own (k .u) (k .v) x → (f : Polynomial) → belongs k f ≡ true → valueOf (group k f) x ≡ at f x
+  pub group-at : Own (k .u) (k .v) x → (f : Polynomial) → belongs k f ≡ true → valueOf (group (scaleIn A) k f) x ≡ at A f x
   group-at own f b = group-sum f ∙ terms-at own f b
 
-at-⊕ : (f g : Polynomial) (x : ℕ → ℤ) → at (f ⊕ g) x ≡ at f x +ℤ at g x
+at-⊕ : (A : Angles) (f g : Polynomial) (x : ℕ → ℤ) → at A (f ⊕ g) x ≡ at A f x +ℤ at A g x
 unfolding at
-at-⊕ [] g x = sym (+ℤ-idl (at g x))
-at-⊕ (t ∷ f) g x =
-    let z = scaled t *ℤ monomialAt (t .monomial) x in
-    ap (λ r. z +ℤ r) (at-⊕ f g x) ∙ sym (+ℤ-assoc z (at f x) (at g x))
+at-⊕ A [] g x = sym (+ℤ-idl (at A g x))
+at-⊕ A (t ∷ f) g x =
+    let z = scaled A t *ℤ monomialAt (t .monomial) x in
+    ap (λ r. z +ℤ r) (at-⊕ A f g x) ∙ sym (+ℤ-assoc z (at A f x) (at A g x))
 
 -- ════ a coefficient
 -- what its block holds in a piece
-abbrev held : Piece → Coefficient → List Group
-held p C = chosen p (cumulus .kinds) (byKind group (cumulus .kinds) (parts C))
+abbrev pub held : Angles → Piece → Coefficient → List Group
+held A p C = chosen p (cumulus .kinds) (byKind (group (scaleIn A)) (cumulus .kinds) (parts C))
 
 -- and what the report has there: (3) or (4)
-abbrev equation : Piece → Coefficient → (ℕ → ℤ) → ℤ
-equation low = pre
-equation high = post
+abbrev pub equation : Angles → Piece → Coefficient → (ℕ → ℤ) → ℤ
+equation A low = pre A
+equation A high = post A
 
 regroup : (a e y z : ℤ) → a +ℤ e +ℤ (y +ℤ (z +ℤ pos 0)) ≡ a +ℤ y +ℤ e +ℤ z
 regroup a e y z = ring4 a e y z (λ ρ i j k l. simp (quote, quote-pos ρ, i, j, k, l) (by _ _ _ tt))
 
 -- a test for each of its groups, and all hold
-abbrev all-hold : List Bool
+abbrev pub all-hold : List Bool
 all-hold = replicate (length (cumulus .kinds)) true
 
-module _ (x : ℕ → ℤ) (C : Coefficient) (b : eachBelongs C ≡ all-hold) where
+module _ (A : Angles) (x : ℕ → ℤ) (C : Coefficient) (b : eachBelongs C ≡ all-hold) where
   belonging : (i : ℕ) → getD (eachBelongs C) i false ≡ getD all-hold i false
   belonging i = ap (λ l. getD l i false) b
 
   -- a polynomial in α and one in α and η, with those in β
   with-sides : (k : Kind) (a e : Polynomial) → Own (k .u) (k .v) x → belongs k (a ⊕ e) ≡ true
-      → total (group k (a ⊕ e) ∷ byKind group (drop 2 (cumulus .kinds)) (C .ξ ∷ C .ζ ∷ [])) x ≡ at a x +ℤ at (C .ξ) x +ℤ at e x +ℤ at (C .ζ) x
+      → total (group (scaleIn A) k (a ⊕ e) ∷ byKind (group (scaleIn A)) (drop 2 (cumulus .kinds)) (C .ξ ∷ C .ζ ∷ [])) x ≡ at A a x +ℤ at A (C .ξ) x +ℤ at A e x +ℤ at A (C .ζ) x
   unfolding total
   with-sides k a e own h =
-      ap₂ _+ℤ_ (group-at k x own (a ⊕ e) h ∙ at-⊕ a e x)
-      (ap₂ (λ y z. y +ℤ (z +ℤ pos 0)) (group-at _ x (own-βξ x) (C .ξ) (belonging 2)) (group-at _ x (own-βζ x) (C .ζ) (belonging 3)))
-      ∙ regroup (at a x) (at e x) (at (C .ξ) x) (at (C .ζ) x)
+      ap₂ _+ℤ_ (group-at A k x own (a ⊕ e) h ∙ at-⊕ A a e x)
+      (ap₂ (λ y z. y +ℤ (z +ℤ pos 0)) (group-at A _ x (own-βξ x) (C .ξ) (belonging 2)) (group-at A _ x (own-βζ x) (C .ζ) (belonging 3)))
+      ∙ regroup (at A a x) (at A e x) (at A (C .ξ) x) (at A (C .ζ) x)
 
-  held-total : (p : Piece) → total (held p C) x ≡ equation p C x
+  pub held-total : (p : Piece) → total (held A p C) x ≡ equation A p C x
   unfolding chosen
   held-total low = with-sides _ (C .α-pre) (C .η-pre) (own-αη x) (belonging 0)
   held-total high = with-sides _ (C .α-post) (C .η-post) (own-αη x) (belonging 1)
@@ -173,7 +179,7 @@ same-map f g h [] e = refl
 same-map f g h (C ∷ Cs) e = ap₂ _∷_ (h C (cc)) (same-map f g h Cs (cc))
 
 -- the blocks hold the coefficients in their order
-blocks-held : (p : Piece) → listed (cumulus .blocks) (λ b. coefficient cumulus published b p) ≡ map (held p) coefficients
+blocks-held : (p : Piece) → listed (cumulus .blocks) (λ b. coefficient cumulus published b p) ≡ map (held milliradians p) coefficients
 unfolding published laidOut listed below kindsLength groups chosen coefficient
 blocks-held low = refl
 blocks-held high = refl
@@ -182,11 +188,11 @@ module _ (x : ℕ → ℤ) where
   totals : List (List Group) → List ℤ
   totals gs = map (λ g. total g x) gs
 
-  in-piece : (p : Piece) → listed (cumulus .blocks) (λ b. total (coefficient cumulus published b p) x) ≡ map (λ C. equation p C x) coefficients
+  in-piece : (p : Piece) → listed (cumulus .blocks) (λ b. total (coefficient cumulus published b p) x) ≡ map (λ C. equation milliradians p C x) coefficients
   unfolding totals listed
-  in-piece p = ap totals (blocks-held p) ∙ same-map _ _ (λ C b. held-total x C b p) coefficients own-variables
+  in-piece p = ap totals (blocks-held p) ∙ same-map _ _ (λ C b. held-total milliradians x C b p) coefficients own-variables
 
-  at-cut : (c : Bool) → listed (cumulus .blocks) (λ b. total (coefficient cumulus published b (cond c low high)) x) ≡ map (λ C. cond c (pre C x) (post C x)) coefficients
+  at-cut : (c : Bool) → listed (cumulus .blocks) (λ b. total (coefficient cumulus published b (cond c low high)) x) ≡ map (λ C. cond c (pre milliradians C x) (post milliradians C x)) coefficients
   at-cut true = in-piece low
   at-cut false = in-piece high
 
