@@ -1,0 +1,27 @@
+-- Fixed point: readings in whole microradians, everything else in whole units of 10⁻⁹. One rounding for each multiplication, from the highest powers down.
+use Prim.Native.Nat.{ℕ}
+use lib.IntN.{ℤ, pos, _*ℤ_}
+use Rattle.whole.specs.Nearest.{nearestAway}
+use Rattle.polynomials.specs.Numbers.{ints}
+use Rattle.polynomials.specs.Order.{place}
+use Rattle.polynomials.specs.Downward.{downward}
+use Rattle.layout.specs.Shape.{Kind}
+use Rattle.cumulus.specs.Notation.{Polynomial}
+use Rattle.cumulus.specs.Model.{microradians}
+use Rattle.cumulus.specs.Stored.{printedAt}
+
+-- a number times a reading, to the nearest whole number, a half away from zero
+infixl 7 _⊛_
+abbrev pub _⊛_ : ℤ → ℤ → ℤ
+a ⊛ r = nearestAway (microradians .radian) (a *ℤ r)
+
+-- what is printed before uᵖvᵠ, in the printed units of 10⁻⁵, in these units
+abbrev pub perPrinted : ℕ
+perPrinted = 10_000
+
+abbrev pub nano : Kind → Polynomial → ℕ → ℕ → ℤ
+nano k f p q = pos perPrinted *ℤ printedAt k f (place p q)
+
+-- a printed polynomial in two variables at their readings: in each row the powers of the first, and then the rows, from the highest down
+abbrev pub rounded : (ℕ → ℤ) → Kind → Polynomial → ℤ
+rounded x k f = downward ints _⊛_ (k .degree) (nano k f) (x (k .u)) (x (k .v))
