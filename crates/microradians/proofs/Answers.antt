@@ -71,7 +71,7 @@ reaches-tested : every 2 (λ n. every (cumulus .variables) (λ i. leb (reach lim
 unfolding every
 reaches-tested = refl
 
-reach-near : (p : Piece) (i : ℕ) → i < cumulus .variables → reach limits p i ≤ microradians .radian
+pub reach-near : (p : Piece) (i : ℕ) → i < cumulus .variables → reach limits p i ≤ microradians .radian
 reach-near low i h = leb-true (reach limits low i) (microradians .radian) (every-all (cumulus .variables) _ (every-all 2 _ reaches-tested 0 (omega arith)) i h)
 reach-near high i h = leb-true (reach limits high i) (microradians .radian) (every-all (cumulus .variables) _ (every-all 2 _ reaches-tested 1 (omega arith)) i h)
 

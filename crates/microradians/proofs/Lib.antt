@@ -2,6 +2,12 @@
 --   Bounds   how large what is summed down is
 --   Held     what a block of printed numbers holds, and that it fits
 --   Answers  which number is given back, and what is left
+--   Off      how far a value in fixed point is off
+--   Slack    the same, followed through the sums from the highest power down
+--   Exact    how far an answer is from the printed polynomials
 pub mod Bounds
 pub mod Held
 pub mod Answers
+pub mod Off
+pub mod Slack
+pub mod Exact
