@@ -5,9 +5,11 @@
 --   Off      how far a value in fixed point is off
 --   Slack    the same, followed through the sums from the highest power down
 --   Exact    how far an answer is from the printed polynomials
+--   Whole    at 1000 times a state of whole milliradians
 pub mod Bounds
 pub mod Held
 pub mod Answers
 pub mod Off
 pub mod Slack
 pub mod Exact
+pub mod Whole
