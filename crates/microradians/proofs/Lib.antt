@@ -6,6 +6,7 @@
 --   Slack    the same, followed through the sums from the highest power down
 --   Exact    how far an answer is from the printed polynomials
 --   Whole    at 1000 times a state of whole milliradians
+--   Controls facts that show what the definitions say
 pub mod Bounds
 pub mod Held
 pub mod Answers
@@ -13,3 +14,4 @@ pub mod Off
 pub mod Slack
 pub mod Exact
 pub mod Whole
+pub mod Controls
