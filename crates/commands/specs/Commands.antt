@@ -19,9 +19,9 @@ use Rattle.commands.specs.declared.Keeping.the-variants as K
 use Rattle.commands.specs.declared.Command.{Command}
 use Rattle.commands.specs.declared.Command.the-variants as C
 
--- ════ names: a word's place among them, which is ten where it is none of them
+-- ════ names: a word's place among them, which is eleven where it is none of them
 unfoldable pub names : List ℕ
-names = text "publish move read floats length set fill copy show sum"
+names = text "publish move read floats microradians length set fill copy show sum"
 
 abbrev pub place : List ℕ → List (List ℕ) → ℕ
 place word [] = 0
@@ -30,13 +30,13 @@ place word (w ∷ ws) = cond (same word w) 0 (suc (place word ws))
 abbrev pub nameAt : ℕ → Name
 nameAt p =
     getD
-    (N.Publish ∷ N.Move ∷ N.Read ∷ N.Floats ∷ N.Length ∷ N.Set ∷ N.Fill ∷ N.Copy ∷ N.Show ∷ N.Sum ∷ [])
+    (N.Publish ∷ N.Move ∷ N.Read ∷ N.Floats ∷ N.Microradians ∷ N.Length ∷ N.Set ∷ N.Fill ∷ N.Copy ∷ N.Show ∷ N.Sum ∷ [])
     p
     N.Other
 
 -- ════ the words behind a name: natural, signed or bits, for each name in the same order
 unfoldable pub kinds : List ℕ
-kinds = text "n nnsn nnsssss nbbbbb nn nns nnnnn nn nnn n"
+kinds = text "n nnsn nnsssss nbbbbb nsssss nn nns nnnnn nn nnn n"
 
 abbrev pub kindOf : ℕ → Kind
 kindOf b = cond (eqb b 110) Natural (cond (eqb b 115) Signed Bits)
@@ -61,6 +61,8 @@ asked N.Read l =
     C.Operation (O.Read (naturalAt l 1) (naturalAt l 2) (signedAt l 3) (signedAt l 4) (signedAt l 5) (signedAt l 6) (signedAt l 7))
 asked N.Floats l =
     C.Operation (O.Floats (naturalAt l 1) (bitsAt l 2) (bitsAt l 3) (bitsAt l 4) (bitsAt l 5) (bitsAt l 6))
+asked N.Microradians l =
+    C.Operation (O.Microradians (naturalAt l 1) (signedAt l 2) (signedAt l 3) (signedAt l 4) (signedAt l 5) (signedAt l 6))
 asked N.Length l = C.Keeping (K.Length (naturalAt l 1) (naturalAt l 2))
 asked N.Set l = C.Keeping (K.Set (naturalAt l 1) (naturalAt l 2) (signedAt l 3))
 asked N.Fill l =

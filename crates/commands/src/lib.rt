@@ -20,6 +20,7 @@ pub enum Name {
     Move,
     Read,
     Floats,
+    Microradians,
     Length,
     Set,
     Fill,
@@ -56,6 +57,14 @@ pub enum Operation {
         xi: u64,
         eta: u64,
         zeta: u64,
+    },
+    Microradians {
+        room: u64,
+        alpha: i64,
+        beta: i64,
+        xi: i64,
+        eta: i64,
+        zeta: i64,
     },
 }
 
@@ -109,14 +118,14 @@ struct Five {
 }
 
 // How many names there are.
-const NAMES: usize = 10;
+const NAMES: usize = 11;
 
 // How many of them, the first ones, are operations.
-const OPERATIONS: usize = 4;
+const OPERATIONS: usize = 5;
 
 // The place of the first word of a line among names.
 fn place_in(line: &[u8], names: &[u8]) -> usize
-    requires { ⌜ length (words (now names)) ≡ 10 ⌝ }
+    requires { ⌜ length (words (now names)) ≡ 11 ⌝ }
     ensures { λ r. ⌜ r ≡ place (wordAt (now (line .entry)) 0) (words (now (names .entry))) ⌝ }
 {
     let mut k: usize = 0;
@@ -134,7 +143,7 @@ fn place_of(line: &[u8]) -> usize
 {
     place_in(
         line,
-        b"publish move read floats length set fill copy show sum",
+        b"publish move read floats microradians length set fill copy show sum",
     )
 }
 
@@ -178,7 +187,11 @@ fn fits_in(line: &[u8], kinds: &[u8], place: usize) -> bool
 fn fits(line: &[u8], place: usize) -> bool
     ensures { λ r. ⌜ r ≡ fits (now (line .entry)) place ⌝ }
 {
-    fits_in(line, b"n nnsn nnsssss nbbbbb nn nns nnnnn nn nnn n", place)
+    fits_in(
+        line,
+        b"n nnsn nnsssss nbbbbb nsssss nn nns nnnnn nn nnn n",
+        place,
+    )
 }
 
 fn name_at(place: usize) -> Name
@@ -189,12 +202,13 @@ fn name_at(place: usize) -> Name
         1 => Name::Move,
         2 => Name::Read,
         3 => Name::Floats,
-        4 => Name::Length,
-        5 => Name::Set,
-        6 => Name::Fill,
-        7 => Name::Copy,
-        8 => Name::Show,
-        9 => Name::Sum,
+        4 => Name::Microradians,
+        5 => Name::Length,
+        6 => Name::Set,
+        7 => Name::Fill,
+        8 => Name::Copy,
+        9 => Name::Show,
+        10 => Name::Sum,
         _ => Name::Other,
     }
 }
@@ -226,6 +240,19 @@ fn reading_floats(line: &[u8]) -> Operation
     }
 }
 
+fn reading_microradians(line: &[u8]) -> Operation
+    ensures { λ r. ⌜ Command.Operation r ≡ asked Name.Microradians (now (line .entry)) ⌝ }
+{
+    Operation::Microradians {
+        room: natural_at(line, 1),
+        alpha: signed_at(line, 2),
+        beta: signed_at(line, 3),
+        xi: signed_at(line, 4),
+        eta: signed_at(line, 5),
+        zeta: signed_at(line, 6),
+    }
+}
+
 // The words behind the name as naturals.
 fn naturals(line: &[u8]) -> Five
     ensures { λ r. ⌜ r ≡ naturals (now (line .entry)) ⌝ }
@@ -239,9 +266,9 @@ fn naturals(line: &[u8]) -> Five
     }
 }
 
-// What the commands at the first four places ask of the library.
+// What the commands at the first five places ask of the library.
 fn operation_at(line: &[u8], place: usize) -> Operation
-    requires { ⌜ place < 4 ⌝ }
+    requires { ⌜ place < 5 ⌝ }
     ensures { λ r. ⌜ Command.Operation r ≡ asked (nameAt place) (now (line .entry)) ⌝ }
 {
     let n = naturals(line);
@@ -254,38 +281,39 @@ fn operation_at(line: &[u8], place: usize) -> Operation
             into: n.four,
         },
         2 => reading(line),
-        _ => reading_floats(line),
+        3 => reading_floats(line),
+        _ => reading_microradians(line),
     }
 }
 
 // What the other commands do with the spaces.
 fn keeping_at(line: &[u8], place: usize) -> Keeping
-    requires { ⌜ (4 ≤ place) × (place < 10) ⌝ }
+    requires { ⌜ (5 ≤ place) × (place < 11) ⌝ }
     ensures { λ r. ⌜ Command.Keeping r ≡ asked (nameAt place) (now (line .entry)) ⌝ }
 {
     let n = naturals(line);
     match place {
-        4 => Keeping::Length {
+        5 => Keeping::Length {
             space: n.one,
             count: n.two,
         },
-        5 => Keeping::Set {
+        6 => Keeping::Set {
             space: n.one,
             place: n.two,
             number: signed_at(line, 3),
         },
-        6 => Keeping::Fill {
+        7 => Keeping::Fill {
             space: n.one,
             place: n.two,
             step: n.three,
             size: n.four,
             seed: n.five,
         },
-        7 => Keeping::Copy {
+        8 => Keeping::Copy {
             space: n.one,
             into: n.two,
         },
-        8 => Keeping::Show {
+        9 => Keeping::Show {
             space: n.one,
             place: n.two,
             count: n.three,

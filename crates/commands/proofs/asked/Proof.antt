@@ -24,7 +24,7 @@ returns-2 c = c .keeping-at .ensures
 returns-3 : tie.Need-returns-3
 returns-3 c =
     let a = c .before .before .before .args in
-    sym (ap (λ n. asked n (a .line .now)) (List·getD-eq-default (N.Publish ∷ N.Move ∷ N.Read ∷ N.Floats ∷ N.Length ∷ N.Set ∷ N.Fill ∷ N.Copy ∷ N.Show ∷ N.Sum ∷ []) N.Other {n = a .place} (c .if2 .left)))
+    sym (ap (λ n. asked n (a .line .now)) (List·getD-eq-default (N.Publish ∷ N.Move ∷ N.Read ∷ N.Floats ∷ N.Microradians ∷ N.Length ∷ N.Set ∷ N.Fill ∷ N.Copy ∷ N.Show ∷ N.Sum ∷ []) N.Other {n = a .place} (c .if2 .left)))
 
 pub asked-spec : {M : Type 1} → statement M
 asked-spec =

@@ -43,11 +43,14 @@ returns-10 : tie.Need-returns-10
 returns-10 c = sym (ap nameAt (c .match .keys10))
 
 returns-11 : tie.Need-returns-11
-returns-11 c =
+returns-11 c = sym (ap nameAt (c .match .keys11))
+
+returns-12 : tie.Need-returns-12
+returns-12 c =
     let p = c .before .args .place in
     let r = c .match .rest in
-    let ten : 10 ≤ p = past 9 (past 8 (past 7 (past 6 (past 5 (past 4 (past 3 (past 2 (past 1 (past 0 (omega arith) (r .0 .0 .0 .0 .0 .0 .0 .0 .0 .1)) (r .0 .0 .0 .0 .0 .0 .0 .0 .1)) (r .0 .0 .0 .0 .0 .0 .0 .1)) (r .0 .0 .0 .0 .0 .0 .1)) (r .0 .0 .0 .0 .0 .1)) (r .0 .0 .0 .0 .1)) (r .0 .0 .0 .1)) (r .0 .0 .1)) (r .0 .1)) (r .1) in
-    sym (List·getD-eq-default (N.Publish ∷ N.Move ∷ N.Read ∷ N.Floats ∷ N.Length ∷ N.Set ∷ N.Fill ∷ N.Copy ∷ N.Show ∷ N.Sum ∷ []) N.Other {n = p} ten)
+    let eleven : 11 ≤ p = past 10 (past 9 (past 8 (past 7 (past 6 (past 5 (past 4 (past 3 (past 2 (past 1 (past 0 (omega arith) (r .0 .0 .0 .0 .0 .0 .0 .0 .0 .0 .1)) (r .0 .0 .0 .0 .0 .0 .0 .0 .0 .1)) (r .0 .0 .0 .0 .0 .0 .0 .0 .1)) (r .0 .0 .0 .0 .0 .0 .0 .1)) (r .0 .0 .0 .0 .0 .0 .1)) (r .0 .0 .0 .0 .0 .1)) (r .0 .0 .0 .0 .1)) (r .0 .0 .0 .1)) (r .0 .0 .1)) (r .0 .1)) (r .1) in
+    sym (List·getD-eq-default (N.Publish ∷ N.Move ∷ N.Read ∷ N.Floats ∷ N.Microradians ∷ N.Length ∷ N.Set ∷ N.Fill ∷ N.Copy ∷ N.Show ∷ N.Sum ∷ []) N.Other {n = p} eleven)
 
 pub name-at-spec : {M : Type 1} → statement M
 name-at-spec =
@@ -63,4 +66,5 @@ name-at-spec =
     returns-8
     returns-9
     returns-10
-    returns-11)
+    returns-11
+    returns-12)

@@ -22,6 +22,9 @@ reading-requires c κs = search needs
 reading-floats-requires : tie.Need-reading-floats-requires
 reading-floats-requires c κs = search needs
 
+reading-microradians-requires : tie.Need-reading-microradians-requires
+reading-microradians-requires c κs = search needs
+
 returns : tie.Need-returns
 returns c =
     let a = c .before .before .before .args in
@@ -46,8 +49,14 @@ returns-3 c =
 returns-4 : tie.Need-returns-4
 returns-4 c =
     let a = c .before .before .before .before .args in
-    let e : a .place ≡ 3 = omega (arith, c .before .before .before .before .pre) in
+    let e : a .place ≡ 3 = c .before .match .keys4 in
     c .reading-floats .ensures ∙ sym (ap (λ p. asked (nameAt p) (a .line .now)) e)
+
+returns-5 : tie.Need-returns-5
+returns-5 c =
+    let a = c .before .before .before .before .args in
+    let e : a .place ≡ 4 = omega (arith, c .before .before .before .before .pre) in
+    c .reading-microradians .ensures ∙ sym (ap (λ p. asked (nameAt p) (a .line .now)) e)
 
 pub operation-at-spec : {M : Type 1} → statement M
 operation-at-spec =
@@ -57,7 +66,9 @@ operation-at-spec =
     signed-at-requires
     reading-requires
     reading-floats-requires
+    reading-microradians-requires
     returns
     returns-2
     returns-3
-    returns-4)
+    returns-4
+    returns-5)

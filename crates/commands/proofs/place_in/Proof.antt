@@ -17,7 +17,7 @@ abbrev Inv-loop : tie.InvT-loop
 Inv-loop line names k₀ k = k + place (wordAt line 0) (drop k (words names)) ≡ place (wordAt line 0) (words names)
 
 abbrev μ-loop : tie.MeasureT-loop
-μ-loop line names k₀ k = 10 - k
+μ-loop line names k₀ k = 11 - k
 
 loop-holds : tie.Need-loop-holds Inv-loop μ-loop
 loop-holds c = omega arith
