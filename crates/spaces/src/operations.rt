@@ -55,6 +55,11 @@ fn put_values(
     put_numbers(lent, MARGIN, end, out, next)
 }
 
+fn put_read(number: u64, lent: &[i64; LENT], end: usize, out: &mut [u8; OUT], at: usize) -> usize {
+    let next = put_values(number, lent, end, out, at);
+    put_sides(lent, end, out, next)
+}
+
 fn settle(
     number: u64,
     lent: &[i64; LENT],
@@ -166,8 +171,29 @@ fn read(
         &mut lent,
         end,
     );
-    let next = put_values(number, &lent, end, out, at);
-    put_sides(&lent, end, out, next)
+    put_read(number, &lent, end, out, at)
+}
+
+fn fine_values(readings: [i64; VARIABLES], lent: &mut [i64], end: usize) -> u64
+    requires { ⌜ (margin ≤ end) × (end ≤ size (now lent)) ⌝ }
+{
+    let from = MARGIN;
+    microradians::read(readings, &mut lent[from..end])
+}
+
+fn read_microradians(
+    room: u64,
+    readings: [i64; VARIABLES],
+    out: &mut [u8; OUT],
+    at: usize,
+) -> usize {
+    if room > ROOM as u64 {
+        return no_room(out, at);
+    }
+    let end = MARGIN + room as usize;
+    let mut lent = fresh();
+    let number = fine_values(readings, &mut lent, end);
+    put_read(number, &lent, end, out, at)
 }
 
 fn float_answer(space: u64, length: usize, readings: [f64; VARIABLES], spaces: &[i64]) -> Answer
@@ -193,13 +219,14 @@ fn floats(
     )
 }
 
-// The space of an operation, and of two the larger one.
+// The space of an operation, and of two the larger one; the first where it takes none.
 fn last_space(operation: Operation) -> u64 {
     match operation {
         Operation::Publish { into } => into,
         Operation::Move { space, into, .. } => larger(space, into),
         Operation::Read { space, .. } => space,
         Operation::Floats { space, .. } => space,
+        Operation::Microradians { .. } => 0,
     }
 }
 
@@ -229,6 +256,14 @@ fn work(operation: Operation, spaces: &mut [i64; ALL], out: &mut [u8; OUT], at: 
             eta,
             zeta,
         } => { floats(space, [alpha, beta, xi, eta, zeta], spaces, out, at) }
+        Operation::Microradians {
+            room,
+            alpha,
+            beta,
+            xi,
+            eta,
+            zeta,
+        } => { read_microradians(room, [alpha, beta, xi, eta, zeta], out, at) }
     }
 }
 

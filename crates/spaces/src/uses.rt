@@ -21,6 +21,9 @@ pub fn put_use(name: Name, out: &mut [u8; OUT], at: usize) -> usize {
         Name::Move => put_text(b"? use: move SPACE VARIABLE SHIFT INTO", out, at),
         Name::Read => put_text(b"? use: read SPACE ROOM ALPHA BETA XI ETA ZETA", out, at),
         Name::Floats => put_text(b"? use: floats SPACE ALPHA BETA XI ETA ZETA", out, at),
+        Name::Microradians => {
+            put_text(b"? use: microradians ROOM ALPHA BETA XI ETA ZETA", out, at)
+        }
         _ => put_use_of_keeping(name, out, at),
     }
 }
