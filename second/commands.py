@@ -155,6 +155,7 @@ def rooms_that_are_wrong(script, _):
     for room in (0, 1, 5, 7, 311, 319, 320, 321, 322, 1 << 32, (1 << 32) + 6, 1 << 63, MASK):
         script.read(0, ZEROS, room)
         script.read(2, ZEROS, room)
+        script.microradians(ZEROS, room)
 
 
 # ------------------------------------------------------------------- lines
@@ -202,6 +203,8 @@ def reasons_in_their_order(script, _):
         b"move 10 x 0 0", b"move 10 9 0 10", b"move 0 x 0 10", b"move 10 0 0", b"move 10 0 0 0 0",
         b"read 10 321 0 0 0 0 0", b"read 0 321 0 0 0 0 0", b"read 10 321 0 0 0 0 x", b"read 10 321 0 0 0 0",
         b"floats 10 0 0 0 0 x", b"floats 10 7ff0000000000000 0 0 0 0",
+        b"microradians 321 0 0 0 0 0", b"microradians 321 1000001 0 0 0 0", b"microradians 321 0 0 0 0 x", b"microradians 321 0 0 0 0",
+        b"microradian 321 0 0 0 0 0",
         b"length 10 321", b"length 10 x", b"length 0 321 0",
         b"set 10 400 1", b"set 10 400 x", b"set 0 400 x", b"set 0 400 1",
         b"fill 10 400 1 1 1", b"fill 0 400 1 1 x", b"fill 0 311 1 1 1",

@@ -8,6 +8,7 @@ import re
 from functools import lru_cache
 
 import door
+import fixed_point
 import tables
 from draws import I64_MAX, I64_MIN, MASK
 from model import TABLE_LENGTH
@@ -127,16 +128,23 @@ class Desk:
         table = self.spaces[space]
         return self.write(into, lambda room: tables.move(table, variable, shift, room))
 
-    def read(self, space, length, *readings):
+    def values(self, length, operation):
+        """Lend a room of the given length, and tell what was written with a 0."""
         if length > MOST_NUMBERS:
             return NO_ROOM
         room = lent(length)
-        number = tables.read(self.spaces[space], readings, room)
+        number = operation(room)
         return refusal(number, room) if number != tables.DONE else spaced([number] + room)
+
+    def read(self, space, length, *readings):
+        return self.values(length, lambda room: tables.read(self.spaces[space], readings, room))
 
     def floats(self, space, *reading_bits):
         number, six, handed_back = door.read_floats(self.spaces[space], reading_bits)
         return "%d %s" % (number, in_hexadecimal([handed_back] + six))
+
+    def microradians(self, length, *readings):
+        return self.values(length, lambda room: fixed_point.read(readings, room))
 
     # spaces
 
@@ -224,6 +232,7 @@ COMMANDS = {command.name.encode(): command for command in (
     Command("move", "SPACE VARIABLE SHIFT INTO"),
     Command("read", "SPACE ROOM ALPHA BETA XI ETA ZETA"),
     Command("floats", "SPACE ALPHA BETA XI ETA ZETA", pattern),
+    Command("microradians", "ROOM ALPHA BETA XI ETA ZETA"),
     Command("length", "SPACE COUNT"),
     Command("set", "SPACE PLACE NUMBER"),
     Command("fill", "SPACE PLACE STEP SIZE SEED"),

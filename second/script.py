@@ -8,7 +8,7 @@ from desk import Desk
 from model import TABLE_LENGTH
 
 TITLE = b"## "
-OPERATIONS = ("publish", "move", "read", "floats")
+OPERATIONS = ("publish", "move", "read", "floats", "microradians")
 FINE_ROOM = 6
 
 
@@ -51,6 +51,9 @@ class Script:
 
     def floats(self, space, patterns):
         self.tell("floats", space, *("%x" % bits for bits in patterns))
+
+    def microradians(self, readings, room=FINE_ROOM):
+        self.tell("microradians", room, *readings)
 
     # spaces
 

@@ -6,10 +6,11 @@ import commands
 import drawn
 import floats
 import listed
+import microradians
 from draws import Generator
 from script import TITLE, Script
 
-SECTIONS = listed.SECTIONS + drawn.SECTIONS + floats.SECTIONS + commands.SECTIONS
+SECTIONS = listed.SECTIONS + drawn.SECTIONS + floats.SECTIONS + microradians.SECTIONS + commands.SECTIONS
 
 
 def seeded_by(title):

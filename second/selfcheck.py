@@ -8,6 +8,8 @@ from fractions import Fraction
 
 import desk
 import door
+import fixed_point
+import microradians
 import tables
 import trimcard
 from desk import lent
@@ -18,9 +20,11 @@ from makers import (
 )
 from model import BLOCK_COUNT, EQUATIONS_OF_BLOCK, FIRST_BLOCK, GROUPS, PRINTED, PUBLISHED_TABLE, parse_polynomial, place_of
 from script import Script
+from wrong import replaced
 
 X, Z, L, M = 0, 2, 3, 4
 T = PUBLISHED_TABLE
+TERMS = {equation: parse_polynomial(text) for equation, text in PRINTED.items()}
 
 
 def zero_table(limits):
@@ -74,8 +78,7 @@ def float_read(*readings):
 
 
 def check_printed_text():
-    terms = [term for text in PRINTED.values() for term in parse_polynomial(text)]
-    assert len(terms) == 181
+    assert sum(map(len, TERMS.values())) == 181
     assert sum(1 for number in T[FIRST_BLOCK:] if number) == 181
     place = FIRST_BLOCK
     for _ in range(BLOCK_COUNT):
@@ -89,21 +92,28 @@ def check_printed_text():
     # fractions
     turn = Fraction("17.949") / 180 * 1000
     assert 313 < turn * Fraction("3.14159") < turn * Fraction("3.1416") < 314
+    # and between 313269 and 313270 microradians
+    assert 313269 < turn * 1000 * Fraction("3.14159265") < turn * 1000 * Fraction("3.14159266") < 313270
     # the powers of a group come by rising degree, then rising second power
     assert GROUPS[0].powers == [(0, 0), (1, 0), (0, 1), (2, 0), (1, 1), (0, 2),
                                 (3, 0), (2, 1), (1, 2), (0, 3)]
     assert [len(group.powers) for group in GROUPS] == [10, 10, 15, 15]
 
 
-def printed_value(equations, readings):
-    """The sum of printed equations at readings in radians, in units of 10^-17."""
+def printed_value(equations, radians):
+    """The sum of printed equations at readings in radians."""
     total = Fraction(0)
     for equation in equations:
-        for powers, value in parse_polynomial(PRINTED[equation]).items():
-            for reading, power in zip(readings, powers):
-                value *= Fraction(reading, 1000) ** power
+        for powers, value in TERMS[equation].items():
+            for reading, power in zip(radians, powers):
+                value *= reading ** power
             total += value
-    return total * 10**17
+    return total
+
+
+def printed_values(is_low, radians):
+    """The six coefficients by the printed equations."""
+    return [printed_value((low if is_low else high) + aileron + rudder, radians) for low, high, aileron, rudder in EQUATIONS_OF_BLOCK]
 
 
 def check_published_reads():
@@ -111,9 +121,8 @@ def check_published_reads():
     gen = Generator(105)
     for _ in range(60):
         state = inside_state(gen, T)
-        for block, (low, high, aileron, rudder) in enumerate(EQUATIONS_OF_BLOCK):
-            piece = low if state[0] <= 313 else high
-            assert value(T, block, state) == printed_value(piece + aileron + rudder, state)
+        exact = printed_values(state[0] <= 313, [Fraction(reading, 1000) for reading in state])
+        assert read(T, state) == (0, [answer * 10**17 for answer in exact])
 
 
 def check_values_1_to_7():
@@ -333,6 +342,67 @@ def check_float_reads():
             assert answers == [door.answer_bits(a) for a in exact]
 
 
+def check_examples_in_microradians():
+    for state, answer in microradians.EXAMPLES:
+        assert desk.run(b"microradians 6 " + desk.spaced(state).encode()) == answer.encode() + b"\n"
+    assert desk.run(b"microradians 5 1000001 0 0 0 0") == b"2 untouched\n"
+    assert desk.run(b"microradians 321 1000001 0 0 0 0") == b"? there is room for 320 numbers\n"
+    assert printed_values(True, [Fraction(313269, 10**6), 0, 0, 0, 0])[X] == Fraction(-5252835842356237132, 10**20)
+
+
+def fine_read(state):
+    output = lent(6)
+    assert fixed_point.read(state, output) == 0
+    return output
+
+
+def check_errors_in_microradians():
+    """Each of 37 products adds at most half a unit of 10^-9 to what an answer is off the printed equations."""
+    gen = Generator(107)
+    states = list(microradians.corners()) + [microradians.drawn_state(gen) for _ in range(120)]
+    for state in states:
+        exact = printed_values(state[0] <= 313269, [Fraction(reading, 10**6) for reading in state])
+        error = max(abs(Fraction(answer, 10**9) - due) for answer, due in zip(fine_read(state), exact))
+        assert error <= Fraction(37, 2) / 10**9 and error <= Fraction(1, 10**7)
+
+
+def check_whole_milliradians():
+    """At whole milliradians the read in microradians answers what the read in milliradians does, but for its roundings."""
+    gen = Generator(108)
+    for _ in range(300):
+        state = inside_state(gen, T)
+        for fine, answer in zip(fine_read([1000 * reading for reading in state]), read(T, state)[1]):
+            assert abs(fine * 10**8 - answer) <= 37 * 10**8 // 2
+
+
+def check_nearest_in_microradians():
+    for thirds, whole in ((-5, -2), (-4, -1), (-2, -1), (-1, 0), (0, 0), (1, 0), (2, 1), (4, 1), (5, 2)):
+        assert fixed_point.nearest(Fraction(thirds, 3)) == whole
+    for half, whole in ((-5, -3), (-3, -2), (-1, -1), (1, 1), (3, 2), (5, 3)):
+        assert fixed_point.nearest(Fraction(half, 2)) == whole
+
+
+def products_on_the_way(block, state):
+    """The exact products of one coefficient's read in microradians, before each is rounded."""
+    right, products = fixed_point.nearest, []
+
+    def kept_and_rounded(exact):
+        products.append(exact)
+        return right(exact)
+
+    with replaced([(fixed_point, "nearest", kept_and_rounded)]):
+        fixed_point.coefficient(block, state)
+    return products
+
+
+def check_halves_in_microradians():
+    """Of every coefficient the script has products exactly at a half, of both signs."""
+    for block in range(BLOCK_COUNT):
+        products = [exact for state in microradians.halves_of_block(block) for exact in products_on_the_way(block, state)]
+        halves = [exact for exact in products if exact.denominator == 2]
+        assert min(halves) < 0 < max(halves)
+
+
 def check_line_program():
     origin = (b"0 -2566000000000000 5402000000000000 -34750000000000000"
               b" 4875000000000000 6214000000000000 4748000000000000\n")
@@ -399,7 +469,9 @@ def check_desk():
 CHECKS = (
     check_printed_text, check_published_reads, check_values_1_to_7, check_values_8_and_9, check_values_10_and_11,
     check_values_12_and_13, check_exact_values, check_rounding, check_drawn_rounding, check_promised_moves, check_moves,
-    check_refusal_order, check_tables_at_cap, check_moves_at_cap, check_float_reads, check_line_program, check_draws, check_desk,
+    check_refusal_order, check_tables_at_cap, check_moves_at_cap, check_float_reads, check_examples_in_microradians,
+    check_errors_in_microradians, check_whole_milliradians, check_nearest_in_microradians, check_halves_in_microradians,
+    check_line_program, check_draws, check_desk,
 )
 
 if __name__ == "__main__":

@@ -6,7 +6,7 @@ from itertools import zip_longest
 import kept
 import tables
 from desk import SPACE_COUNT, Desk
-from wrong_models import DESKS, MODELS, Wrong, wrong_signs
+from wrong_models import DESKS, MODELS, Wrong, wrong_signs, wrong_signs_of_rows
 
 
 @contextmanager
@@ -54,7 +54,7 @@ def right_model(title):
 def check():
     """Whether every wrong model is noticed and the right one is not, and what to say about it."""
     sections = kept.parted_sections()
-    signs = wrong_signs()
+    signs = wrong_signs() + wrong_signs_of_rows()
     faults = ["noticed: " + model.name for model in map(right_model, sections) if is_noticed(model, sections)]
     faults += ["not noticed: " + model.name for model in MODELS + DESKS + signs if not is_noticed(model, sections)]
     if faults:

@@ -5,9 +5,11 @@ look right come first.
 """
 
 from fractions import Fraction
+from math import floor
 
 import desk
 import door
+import fixed_point
 import tables
 from door import POSITIVE_ZERO, SIGN_BIT
 from draws import I64_MIN, MASK, signed
@@ -35,6 +37,11 @@ right_term_moved = tables.term_moved
 right_weights = tables.weights
 right_pattern = desk.pattern
 right_whole = desk.whole
+right_fine_is_outside = fixed_point.is_outside
+right_fine_read = fixed_point.read
+right_group_sum = fixed_point.group_sum
+right_nearest = fixed_point.nearest
+right_six_answers = fixed_point.six_answers
 
 
 class Wrong:
@@ -55,6 +62,10 @@ def in_door(name, replacement):
     return door, name, replacement
 
 
+def in_fixed_point(name, replacement):
+    return fixed_point, name, replacement
+
+
 # ---------------------------------------------------------- the published table
 
 def published_with(place, number):
@@ -71,10 +82,25 @@ def low_and_high_exchanged():
 
 
 def wrong_signs():
-    """Each printed coefficient with the other sign."""
+    """Each printed coefficient with the other sign, in the published table."""
     return tuple(Wrong("the other sign at place %d of the published table" % place, "Readings at the limits", "read",
                        published_with(place, -PUBLISHED_TABLE[place]))
                  for place in range(FIRST_BLOCK, len(PUBLISHED_TABLE)) if PUBLISHED_TABLE[place])
+
+
+def rows_with_sign(block, group, q, p):
+    """The numbers of the read in microradians, one of them with the other sign."""
+    rows = [[[list(row) for row in of_group] for of_group in of_block] for of_block in fixed_point.ROWS]
+    rows[block][group][q][p] *= -1
+    return in_fixed_point("ROWS", rows)
+
+
+def wrong_signs_of_rows():
+    """The same in the read in microradians."""
+    return tuple(Wrong("the other sign in block %d, group %d, powers %d and %d of microradians" % (block, group, p, q),
+                       "Microradians at the limits", "microradians", rows_with_sign(block, group, q, p))
+                 for block, groups in enumerate(fixed_point.ROWS) for group, rows in enumerate(groups)
+                 for q, row in enumerate(rows) for p, number in enumerate(row) if number)
 
 
 # ---------------------------------------------------------------------- moves
@@ -264,6 +290,75 @@ def interleaved(first, second):
     return tuple(number for pair in zip(first, second) for number in pair)
 
 
+# --------------------------------------------------------------- microradians
+
+def half_up(exact):
+    return floor(exact + Fraction(1, 2))
+
+
+def exact_product(number, reading):
+    return Fraction(number * reading, fixed_point.RADIAN)
+
+
+def rounded_at_the_end(readings):
+    return [right_nearest(answer) for answer in right_six_answers(readings)]
+
+
+def rounded_by_group(rows, first, second):
+    return right_nearest(right_group_sum(rows, first, second))
+
+
+def rounded_once_added(numbers, reading):
+    """A product is rounded together with the number that is added to it."""
+    total = 0
+    for number in reversed(numbers):
+        total = right_nearest(exact_product(total, reading) + number)
+    return total
+
+
+def first_variable_outside(rows, first, second):
+    columns = [[row[p] for row in rows if p < len(row)] for p in range(len(rows))]
+    return fixed_point.downward([fixed_point.downward(column, second) for column in columns], first)
+
+
+def upward(numbers, reading):
+    """From the lowest power up, each number multiplied as often as its power says."""
+    total = 0
+    for power, number in enumerate(numbers):
+        for _ in range(power):
+            number = fixed_point.times(number, reading)
+        total += number
+    return total
+
+
+def pieces_exchanged(alpha):
+    return HIGH_GROUP if alpha <= fixed_point.LAST_OF_LOW else LOW_GROUP
+
+
+def in_larger_units(readings):
+    return [right_nearest(Fraction(answer, 10)) for answer in right_six_answers(readings)]
+
+
+def rounded_to_milliradians(readings):
+    return right_six_answers([1000 * right_nearest(Fraction(reading, 1000)) for reading in readings])
+
+
+def fine_ends_excluded(variable, reading):
+    return not fixed_point.lowest(variable) < reading < fixed_point.highest(variable)
+
+
+def outside_modulo(variable, reading):
+    """A reading is multiplied by 1000 modulo 2^64 before it is held against its limits."""
+    return right_fine_is_outside(variable, signed(reading * 1000) // 1000)
+
+
+def refused_fine_read_writes(readings, output):
+    number = right_fine_read(readings, output)
+    if number in READING_OUTSIDE:
+        output[:] = [0] * len(output)
+    return number
+
+
 # ----------------------------------------------------------------------- desk
 
 def tabs_part_words(line):
@@ -411,6 +506,45 @@ MODELS = (
           in_door("answer_bits", one_rounding_only)),
     Wrong("answers cut off and not rounded", "Drawn floats of the published table", "floats", in_door("answer_bits", answer_cut_off)),
     Wrong("a zero answered as negative zero", "Mixed defects of reads with floats", "floats", in_door("answer_bits", zero_is_negative)),
+    # microradians: products
+    Wrong("products exact and only the answer rounded", "Drawn microradians", "microradians",
+          in_fixed_point("times", exact_product), in_fixed_point("six_answers", rounded_at_the_end)),
+    Wrong("products exact and each group rounded", "Drawn microradians", "microradians",
+          in_fixed_point("times", exact_product), in_fixed_point("group_sum", rounded_by_group)),
+    Wrong("products rounded once the next number is added", "Microradians with products at a half", "microradians",
+          in_fixed_point("downward", rounded_once_added)),
+    Wrong("products with halves to even", "Microradians with products at a half", "microradians",
+          in_fixed_point("nearest", door.round_half_even)),
+    Wrong("products with halves up", "Microradians with products at a half", "microradians", in_fixed_point("nearest", half_up)),
+    Wrong("products rounded down", "Drawn microradians", "microradians", in_fixed_point("nearest", floor)),
+    Wrong("products cut off", "Drawn microradians", "microradians", in_fixed_point("nearest", int)),
+    Wrong("the first variable outside", "Drawn microradians", "microradians", in_fixed_point("group_sum", first_variable_outside)),
+    Wrong("summed from the lowest power up", "Drawn microradians", "microradians", in_fixed_point("downward", upward)),
+    Wrong("answers in units of 10^-8", "Worked examples in microradians", "microradians", in_fixed_point("six_answers", in_larger_units)),
+    # microradians: readings and pieces
+    Wrong("microradians rounded to milliradians", "Drawn microradians", "microradians",
+          in_fixed_point("six_answers", rounded_to_milliradians)),
+    Wrong("the low piece up to 313268 microradians", "Microradians in either piece", "microradians", in_fixed_point("LAST_OF_LOW", 313268)),
+    Wrong("the low piece up to 313270 microradians", "Microradians in either piece", "microradians", in_fixed_point("LAST_OF_LOW", 313270)),
+    Wrong("the low piece up to 313 milliradians", "Microradians in either piece", "microradians", in_fixed_point("LAST_OF_LOW", 313000)),
+    Wrong("the low and the high piece exchanged", "Whole milliradians in microradians", "microradians",
+          in_fixed_point("piece_at", pieces_exchanged)),
+    Wrong("the envelope times 100", "Microradians at the limits", "microradians", in_fixed_point("MILLIRADIAN", 100)),
+    Wrong("the ends of the envelope excluded", "Microradians at the limits", "microradians",
+          in_fixed_point("is_outside", fine_ends_excluded)),
+    Wrong("microradians times 1000 modulo 2^64", "Microradians at the ends of 64 bits", "microradians",
+          in_fixed_point("is_outside", outside_modulo)),
+    Wrong("microradians cut to 32 bits", "Microradians at the ends of 64 bits", "microradians",
+          in_fixed_point("read", lambda readings, output: right_fine_read([low_half(reading) for reading in readings], output))),
+    # microradians: refusals
+    Wrong("the room of microradians behind the readings", "Order of refusals of microradians", "microradians",
+          in_fixed_point("ORDER", READING_OUTSIDE + (tables.WRONG_OUTPUT_LENGTH,))),
+    Wrong("the last of the microradians outside given", "Order of refusals of microradians", "microradians",
+          in_fixed_point("ORDER", (tables.WRONG_OUTPUT_LENGTH,) + READING_OUTSIDE[::-1])),
+    Wrong("a longer room taken for microradians", "Rooms of microradians", "microradians",
+          in_fixed_point("read", longer_taken(right_fine_read, tables.READ_LENGTH))),
+    Wrong("a refused read of microradians that writes", "Order of refusals of microradians", "microradians",
+          in_fixed_point("read", refused_fine_read_writes)),
 )
 
 # A desk around the right model that does not do what it is told.
@@ -424,5 +558,6 @@ DESKS = (
     Wrong("capital hexadecimal digits taken", "Every byte", "floats", *with_kind(right_pattern, capitals_taken)),
     Wrong("drawn numbers that start with the seed", "Drawn numbers", "sum", (desk, "filled", not_stepped_first)),
     Wrong("place and count added modulo 2^64", "Copies and shows", "show", (desk.Desk, "show", place_and_count_wrapped)),
+    Wrong("a room of 321 numbers lent for microradians", "Rooms of microradians", "microradians", (desk, "MOST_NUMBERS", 321)),
     Wrong("new numbers of a space that are not 0", "Lengths of spaces", "sum", (desk.Desk, "length", new_numbers_are_one)),
 )
