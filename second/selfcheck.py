@@ -357,13 +357,13 @@ def fine_read(state):
 
 
 def check_errors_in_microradians():
-    """Each of 37 products adds at most half a unit of 10^-9 to what an answer is off the printed equations."""
+    """An answer is at most 6.91 units of 10^-9 off the printed equations: less than half a unit for each of its 37 products."""
     gen = Generator(107)
     states = list(microradians.corners()) + [microradians.drawn_state(gen) for _ in range(120)]
     for state in states:
         exact = printed_values(state[0] <= 313269, [Fraction(reading, 10**6) for reading in state])
         error = max(abs(Fraction(answer, 10**9) - due) for answer, due in zip(fine_read(state), exact))
-        assert error <= Fraction(37, 2) / 10**9 and error <= Fraction(1, 10**7)
+        assert error <= Fraction('6.91') / 10**9
 
 
 def check_whole_milliradians():
@@ -372,7 +372,7 @@ def check_whole_milliradians():
     for _ in range(300):
         state = inside_state(gen, T)
         for fine, answer in zip(fine_read([1000 * reading for reading in state]), read(T, state)[1]):
-            assert abs(fine * 10**8 - answer) <= 37 * 10**8 // 2
+            assert abs(fine * 10**8 - answer) <= 691 * 10**6
 
 
 def check_nearest_in_microradians():
