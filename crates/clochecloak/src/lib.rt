@@ -5,6 +5,7 @@ ghost use Rattle.layout.specs.Shape.{cumulus};
 ghost use Rattle.layout.specs.Reading.{readings, readNumber, readOutput};
 ghost use Rattle.layout.specs.Moving.{moveNumber, moveOutput};
 ghost use Rattle.cumulus.specs.Published.{publishNumber, publishOutput};
+ghost use Rattle.microradians.specs.Answer.{fineNumber, fineOutput};
 ghost use Rattle.door.specs.Door.{floats, doorAnswer};
 use door::Answer;
 
@@ -31,6 +32,22 @@ pub extern "C" fn clochecloak_read(
 {
     let state = [alpha, beta, xi, eta, zeta];
     tables::reading::read(table, state, out)
+}
+
+#[no_mangle]
+pub extern "C" fn clochecloak_read_microradians(
+    alpha: i64,
+    beta: i64,
+    xi: i64,
+    eta: i64,
+    zeta: i64,
+    out: &mut [i64],
+) -> u64
+    ensures number { λ r. ⌜ r ≡ fineNumber (readings (alpha ∷ beta ∷ xi ∷ eta ∷ zeta ∷ [])) (now (out .entry)) ⌝ }
+    ensures output { λ r. ⌜ now (out .exit) ≡ fineOutput (readings (alpha ∷ beta ∷ xi ∷ eta ∷ zeta ∷ [])) (now (out .entry)) ⌝ }
+{
+    let state = [alpha, beta, xi, eta, zeta];
+    microradians::read(state, out)
 }
 
 #[no_mangle]

@@ -1,12 +1,9 @@
 -- `clochecloak::clochecloak_read` meets its contract: it hands the five readings on as a state. Assumes nothing.
 use mathlib.Core.Path.{_≡_, _∙_, ap}
-use mathlib.Core.List.{List, [], _∷_}
 use borrow.Author.Needs.{needs}
-use mir.Syntax.{w64}
-use mir.Val.{toZ, ofZ}
-use mir.Facts.{toZ-ofZ}
 use Rattle.layout.specs.Shape.{cumulus}
 use Rattle.layout.specs.Reading.{readings, readNumber, readOutput}
+use Rattle.clochecloak.proofs.States.{held-state}
 use Rattle.clochecloak.proofs.clochecloak_read.Statement.{statement}
 use Rattle.clochecloak.proofs.clochecloak_read.Tie as tie
 
@@ -20,13 +17,9 @@ returns : tie.Need-returns
 returns c =
     let r = c .before .read in
     let b = c .before .before .before in
-    let same : toZ w64 (ofZ w64 (b .args .alpha)) ∷ toZ w64 (ofZ w64 (b .args .beta)) ∷ toZ w64 (ofZ w64 (b .args .xi)) ∷ toZ w64 (ofZ w64 (b .args .eta)) ∷ toZ w64 (ofZ w64 (b .args .zeta)) ∷ []
-    ≡ b .args .alpha ∷ b .args .beta ∷ b .args .xi ∷ b .args .eta ∷ b .args .zeta ∷ [] =
-    λ j. toZ-ofZ (b .fits .alpha) j ∷ toZ-ofZ (b .fits .beta) j ∷ toZ-ofZ (b .fits .xi) j ∷ toZ-ofZ (b .fits .eta) j ∷ toZ-ofZ (b .fits .zeta) j ∷ []
-    in (
-      r .ensures .0 ∙ ap (λ x. readNumber cumulus (b .args .table .now) (readings x) (b .args .out .now)) same,
-      r .ensures .1 ∙ ap (λ x. readOutput cumulus (b .args .table .now) (readings x) (b .args .out .now)) same,
-    )
+    let f = b .fits in
+    let same = held-state (f .alpha) (f .beta) (f .xi) (f .eta) (f .zeta) in
+    (r .ensures .0 ∙ ap (λ x. readNumber cumulus (b .args .table .now) (readings x) (b .args .out .now)) same, r .ensures .1 ∙ ap (λ x. readOutput cumulus (b .args .table .now) (readings x) (b .args .out .now)) same)
 
 pub clochecloak-read-spec : {M : Type 1} → statement M
 clochecloak-read-spec = tie.close (tie.spec read-requires same-length returns)

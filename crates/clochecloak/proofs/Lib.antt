@@ -1,0 +1,2 @@
+-- What the functions for C have in common.
+pub mod States
