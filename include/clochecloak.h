@@ -1,7 +1,8 @@
 /* Clochecloak for C. Link libclochecloak.a, which `rt staticlib clochecloak` writes.
  *
  * A table is CLOCHECLOAK_TABLE numbers. Readings and shifts are whole milliradians; variables are 0 alpha, 1 beta, 2 xi
- * (aileron), 3 eta (elevator) and 4 zeta (rudder); coefficients are whole units of 10^-17, in the order X, Y, Z, l, m, n.
+ * (aileron), 3 eta (elevator) and 4 zeta (rudder); coefficients are whole units of 10^-17, in the order X, Y, Z, l, m, n. One
+ * read has units of its own: whole microradians, and coefficients in units of 10^-9.
  *
  * Every function takes any arguments and gives back 0, or the number of a refusal. After a refusal the output holds what it
  * held before. The counts are counts of numbers, not of bytes. A table and an output may not overlap.
@@ -21,7 +22,7 @@ enum { CLOCHECLOAK_TABLE = 311, CLOCHECLOAK_COEFFICIENTS = 6 };
 enum {
     CLOCHECLOAK_DONE = 0,
     CLOCHECLOAK_WRONG_TABLE = 1,    /* the table does not have 311 numbers */
-    CLOCHECLOAK_WRONG_OUTPUT = 2,   /* the output does not have 6 numbers (read) or 311 (publish, move) */
+    CLOCHECLOAK_WRONG_OUTPUT = 2,   /* the output does not have 6 numbers (reads) or 311 (publish, move) */
     CLOCHECLOAK_BAD_LIMITS = 3,     /* the table's limits are not good */
     CLOCHECLOAK_TOO_HEAVY = 4,      /* a weight passes the cap */
     CLOCHECLOAK_NO_VARIABLE = 5,    /* the variable is above 4 */
@@ -45,6 +46,11 @@ uint64_t clochecloak_publish(int64_t *out, size_t out_count);
 /* Writes the six coefficients at a state. Refusals 1, 2, 3, 4, 11 to 15, in this order. */
 uint64_t clochecloak_read(const int64_t *table, size_t table_count, int64_t alpha, int64_t beta, int64_t xi, int64_t eta,
                           int64_t zeta, int64_t *out, size_t out_count);
+
+/* Writes the six coefficients of the published table, which is not handed over, at a state of whole microradians: six whole
+ * numbers in units of 10^-9, each less than 7 of them off the printed model. Refusals 2, 11 to 15, in this order. */
+uint64_t clochecloak_read_microradians(int64_t alpha, int64_t beta, int64_t xi, int64_t eta, int64_t zeta, int64_t *out,
+                                       size_t out_count);
 
 /* The six coefficients at a state of floats in milliradians, each first rounded to the nearest whole number (half to even).
  * Refusals 1, 3, 4, 21 to 25, 11 to 15, in this order. */

@@ -1,4 +1,5 @@
 -- At 1000 times a state of whole milliradians.
+--   lowest-whole, highest-whole   the limits are the published ones times 1000
 --   number-whole  the same number is given back as by the whole-number read of the published table
 --   near-whole    and each answer is within the same bound of that read's
 use mathlib.Core.Path.{_≡_, refl, sym, _∙_, ap, ap₂}
@@ -50,6 +51,12 @@ one-of : (f g : ℕ → ℤ) → listed (cumulus .variables) f ≡ listed (cumul
 one-of f g e i h =
     sym (getD-listed (cumulus .variables) f i (pos 0) h) ∙ ap (λ r. getD r i (pos 0)) e ∙ getD-listed (cumulus .variables) g i (pos 0) h
 
+pub lowest-whole : (i : ℕ) → i < cumulus .variables → lowest limits i ≡ pos 1000 *ℤ lowest published i
+lowest-whole = one-of (lowest limits) (λ i. pos 1000 *ℤ lowest published i) lowest-all
+
+pub highest-whole : (i : ℕ) → i < cumulus .variables → highest limits i ≡ pos 1000 *ℤ highest published i
+highest-whole = one-of (highest limits) (λ i. pos 1000 *ℤ highest published i) highest-all
+
 module _ (x : ℕ → ℤ) where
   abbrev pub thousandfold : ℕ → ℤ
   thousandfold i = pos 1000 *ℤ x i
@@ -57,8 +64,8 @@ module _ (x : ℕ → ℤ) where
   inside-whole : (i : ℕ) → i < cumulus .variables → inside limits thousandfold i ≡ inside published x i
   inside-whole i h =
       ap₂ _&&_
-      (ap (λ z. leZ z (thousandfold i)) (one-of (lowest limits) (λ i. pos 1000 *ℤ lowest published i) lowest-all i h) ∙ same-test (lowest published i) (x i))
-      (ap (leZ (thousandfold i)) (one-of (highest limits) (λ i. pos 1000 *ℤ highest published i) highest-all i h) ∙ same-test (x i) (highest published i))
+      (ap (λ z. leZ z (thousandfold i)) (lowest-whole i h) ∙ same-test (lowest published i) (x i))
+      (ap (leZ (thousandfold i)) (highest-whole i h) ∙ same-test (x i) (highest published i))
 
   pub number-whole : (out : List ℤ) → length out ≡ cumulus .blocks → fineNumber thousandfold out ≡ readNumber cumulus published x out
   number-whole out six =

@@ -6,9 +6,11 @@
 -- gives a fixed answer and one that works out X alone (`published-answers-the-print`, over all six), and a move that copies the table (`moved-answers-as-before`).
 --   Tables  the published table, and what every table answers at a whole-number state
 --   Moves   a datum moved: which moves are accepted, and what the moved table answers
+--   Microradians   the published table read in microradians
 --   Door    the floating-point door
 --   Lines   the program trimcard
 pub mod Tables
 pub mod Moves
+pub mod Microradians
 pub mod Door
 pub mod Lines

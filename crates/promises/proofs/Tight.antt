@@ -37,6 +37,7 @@ use Rattle.blocks.proofs as blocks
 use Rattle.tables.proofs as tables
 use Rattle.moving.proofs as moving
 use Rattle.cumulus.proofs as cumulus
+use Rattle.microradians.proofs as microradians
 use Rattle.rounding.proofs as rounding
 use Rattle.door.proofs as door
 use Rattle.clochecloak.proofs as clochecloak
@@ -193,6 +194,10 @@ printed-tight κs a o p = tight o p (search same)
 pub publish-tight : Tight cumulus.publish.ended cumulus.publish.Reads.Post
 publish-tight κs a o p = tight o p (search same)
 
+-- ════ microradians
+pub read-microradians-tight : Tight microradians.read.ended microradians.read.Reads.Post
+read-microradians-tight κs a o p = tight o p (search same)
+
 -- ════ rounding
 pub step-of-tight : Tight rounding.step_of.ended rounding.step_of.Reads.Post
 step-of-tight κs a o p = tight o p (search same)
@@ -210,6 +215,9 @@ clochecloak-publish-tight κs a o p = tight o p (search same)
 
 pub clochecloak-read-tight : Tight clochecloak.clochecloak_read.ended clochecloak.clochecloak_read.Reads.Post
 clochecloak-read-tight κs a o p = tight o p (search same)
+
+pub clochecloak-read-microradians-tight : Tight clochecloak.clochecloak_read_microradians.ended clochecloak.clochecloak_read_microradians.Reads.Post
+clochecloak-read-microradians-tight κs a o p = tight o p (search same)
 
 pub clochecloak-move-tight : Tight clochecloak.clochecloak_move.ended clochecloak.clochecloak_move.Reads.Post
 clochecloak-move-tight κs a o p = tight o p (search same)

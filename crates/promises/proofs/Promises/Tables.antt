@@ -16,7 +16,7 @@ use Rattle.layout.specs.Shape.{Shape, limitsLength, blockLength, blockStart, ta
 use Rattle.layout.specs.Limits.{lowest, highest, cut, good}
 use Rattle.layout.specs.Blocks.{Piece, coefficient}
 use Rattle.layout.specs.Sound.{reach, light, SoundTable}
-use Rattle.layout.specs.Refusals.{_when_, done, wrongOutput, outside}
+use Rattle.layout.specs.Refusals.{_when_, first, done, wrongOutput, outside}
 use Rattle.layout.specs.Reading.{inside, values, readNumber, readOutput}
 use Rattle.layout.specs.Accepted.{ReadAccepted}
 use Rattle.layout.proofs.Sizes.{block-size, start-size, table-size}
@@ -24,7 +24,7 @@ use Rattle.layout.proofs.Tests.{&&-left, &&-right, &&-both, leZ-fact, fact-leZ}
 use Rattle.layout.proofs.LimitLaws.{good-facts, facts-good, limit-within, within-range}
 use Rattle.layout.proofs.Weights.{withinCap-fact, fact-withinCap}
 use Rattle.layout.proofs.Heavy.{smallest-heavy}
-use Rattle.layout.proofs.Refused.{read-given, read-kept, read-sound, read-done}
+use Rattle.layout.proofs.Refused.{refusedReadings, read-given, read-kept, read-sound, read-done}
 use Rattle.layout.proofs.Accepted.{read-told, sound-limits, sound-weights, same-exactly}
 use Rattle.cumulus.specs.Model.{coefficients, modelValue, scale}
 use Rattle.cumulus.specs.Envelope.{Envelope}
@@ -112,6 +112,15 @@ inside-rule t x i = (
   λ h. &&-both (fact-leZ (h .0)) (fact-leZ (h .1)),
 )
 
+-- Of the refusals of readings by limits, the first that holds is that of the first reading outside.
+pub outside-named : (S : Shape) (t : List ℤ) (x : ℕ → ℤ) (i : ℕ) → i < S .variables
+    → (first (refusedReadings S t x) ≡ outside i) ↔ (((k : ℕ) → k < i → inside t x k ≡ true) × (inside t x i ≡ false))
+outside-named S t x i h =
+    let q = first-exactly (λ k. outside k when not (inside t x k)) (S .variables) i h (omega arith) (λ k b d. omega arith) in (
+      λ d. ((λ k b. not-false (inside t x k) (q .0 d .0 k b)), not-true (inside t x i) (q .0 d .1)),
+      λ g. q .1 ((λ k b. ap not (g .0 k b)), ap not (g .1)),
+    )
+
 module _ (S : Shape) (t : List ℤ) (x : ℕ → ℤ) (out : List ℤ) where
   -- A sound table, with room, is read at every reading inside its limits by the same sum over its own numbers,
   pub sound-answers-its-sum : SoundTable S t → length out ≡ S .blocks → ((i : ℕ) → i < S .variables → inside t x i ≡ true)
@@ -127,12 +136,7 @@ module _ (S : Shape) (t : List ℤ) (x : ℕ → ℤ) (out : List ℤ) where
   -- A sound table, with room, gives 11 to 15 exactly for the first of the readings that is outside.
   pub first-outside-is-named : SoundTable S t → length out ≡ S .blocks → (i : ℕ) → i < S .variables
       → (readNumber S t x out ≡ outside i) ↔ (((k : ℕ) → k < i → inside t x k ≡ true) × (inside t x i ≡ false))
-  first-outside-is-named w e i h =
-      let q = first-exactly (λ k. outside k when not (inside t x k)) (S .variables) i h (omega arith) (λ k b d. omega arith) in
-      same-exactly (read-sound S t x out (w .long) e (sound-limits w) (sound-weights w)) (
-        λ d. ((λ k b. not-false (inside t x k) (q .0 d .0 k b)), not-true (inside t x i) (q .0 d .1)),
-        λ g. q .1 ((λ k b. ap not (g .0 k b)), ap not (g .1)),
-      )
+  first-outside-is-named w e i h = same-exactly (read-sound S t x out (w .long) e (sound-limits w) (sound-weights w)) (outside-named S t x i h)
 
   -- A refusal writes nothing into the lent space.
   pub refused-read-writes-nothing : 0 < readNumber S t x out → readOutput S t x out ≡ out
