@@ -13,10 +13,12 @@ int main(int argc, char **argv) {
     int ours = argv[2][0] == 'o', count = atoi(argv[3]);
     struct timespec from, to;
     uint64_t number = clochecloak_publish(table, CLOCHECLOAK_TABLE);
+    peer_prepare(table);
     clock_gettime(CLOCK_MONOTONIC, &from);
     for (int i = 0; i < count; i++) switch (argv[1][0]) {
         case 'r': number += (ours ? clochecloak_read : peer_read)(table, 311, 100, 20, -30, 40, -50, six, 6); break;
         case 'f': number += (ours ? clochecloak_read_floats : peer_read_floats)(table, 311, 100.4, 20.5, -30, 40, -50).number; break;
+        case 'm': number += (ours ? clochecloak_read_microradians : peer_read_microradians)(100400, 20500, -30000, 40000, -50000, six, 6); break;
         default: number += (ours ? clochecloak_move : peer_move)(table, 311, 0, 35, moved, 311);
     }
     clock_gettime(CLOCK_MONOTONIC, &to);

@@ -100,6 +100,48 @@ uint64_t peer_read(const int64_t *t, size_t n, int64_t a, int64_t be, int64_t xi
     return no ? no : peer_sound_read(t, x, out);
 }
 
+/* Fixed point in units of 10^-9: the numbers, filled once from the published table, which has them of degree n times 1000^(4 - n)
+ * in units of 10^-17. Halves go away from zero; dividing magnitudes spares the compiler the sign. */
+static int64_t fine[6][BLOCK];
+
+void peer_prepare(const int64_t *t) {
+    static const int START[4] = {0, 10, 20, 35}, COUNT[4] = {10, 10, 15, 15};
+    static const int64_t OVER[5] = {100000000, 100000, 100, 1, 1}, TIMES[5] = {1, 1, 1, 10, 10000};
+    for (int b = 0; b < 6; b++)
+        for (int g = 0; g < 4; g++)
+            for (int k = 0; k < COUNT[g]; k++) {
+                int n = FIRST[k] + SECOND[k], at = START[g] + k;
+                fine[b][at] = t[LIMITS + BLOCK * b + at] / OVER[n] * TIMES[n];
+            }
+}
+
+static int64_t times(int64_t a, int64_t r) {
+    int64_t p = a * r;
+    return p < 0 ? -(int64_t)((500000 - (uint64_t)p) / 1000000) : (int64_t)(((uint64_t)p + 500000) / 1000000);
+}
+
+static int64_t downward(const int64_t *g, int d, int64_t x, int64_t y) {
+    int64_t sum = 0;
+    for (int q = d; q >= 0; q--) {
+        int64_t row = g[d * (d + 1) / 2 + q];
+        for (int n = d - 1; n >= q; n--) row = times(row, x) + g[n * (n + 1) / 2 + q];
+        sum = q == d ? row : times(sum, y) + row;
+    }
+    return sum;
+}
+
+uint64_t peer_read_microradians(int64_t a, int64_t be, int64_t xi, int64_t e, int64_t z, int64_t *out, size_t m) {
+    static const int64_t MOST[5] = {1000000, 500000, 200000, 400000, 500000};
+    int64_t x[5] = {a, be, xi, e, z};
+    if (m != 6) return 2;
+    for (int v = 0; v < 5; v++)
+        if (x[v] < (v ? -MOST[v] : -150000) || x[v] > MOST[v]) return 11 + v;
+    int p = a > 313269;
+    for (int b = 0; b < 6; b++)
+        out[b] = downward(fine[b] + PITCH * p, 3, a, e) + downward(fine[b] + 20, 4, be, xi) + downward(fine[b] + 35, 4, be, z);
+    return 0;
+}
+
 clochecloak_answer peer_read_floats(const int64_t *t, size_t n, double a, double be, double xi, double e, double z) {
     clochecloak_answer r = {0};
     double f[5] = {a, be, xi, e, z};

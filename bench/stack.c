@@ -1,6 +1,7 @@
-/* How many bytes of the stack a call of clochecloak_read takes, with its arguments and return address: it runs on a stack of its
- * own that was filled with one byte, and the lowest changed place shows how deep it went. It reads the published table, and one
- * that is sound but too near the cap for the quick test, so that both ways through the weight check are met. */
+/* How many bytes of the stack a read takes, with its arguments and return address: it runs on a stack of its own that was filled
+ * with one byte, and the lowest changed place shows how deep it went. clochecloak_read reads the published table, and one that is
+ * sound but too near the cap for the quick test, so that both ways through the weight check are met; the read in microradians
+ * reads in both pieces. */
 #include "clochecloak.h"
 #include <stdio.h>
 #include <string.h>
@@ -19,17 +20,27 @@ static void reads(void) {
     clochecloak_read(table, CLOCHECLOAK_TABLE, 100, 20, -30, 40, -50, six, CLOCHECLOAK_COEFFICIENTS);
 }
 
-int main(void) {
-    clochecloak_publish(table, CLOCHECLOAK_TABLE);
+static void reads_microradians(void) {
+    frame = __builtin_frame_address(0);
+    clochecloak_read_microradians(100400, 20500, -30000, 40000, -50000, six, CLOCHECLOAK_COEFFICIENTS);
+    clochecloak_read_microradians(900400, 20500, -30000, 40000, -50000, six, CLOCHECLOAK_COEFFICIENTS);
+}
+
+static ptrdiff_t depth(void (*calls)(void)) {
     memset(stack, FILL, SPACE);
     getcontext(&there);
     there.uc_stack.ss_sp = stack;
     there.uc_stack.ss_size = SPACE;
     there.uc_link = &here;
-    makecontext(&there, reads, 0);
+    makecontext(&there, calls, 0);
     swapcontext(&here, &there);
     unsigned char *lowest = stack;
     while (*lowest == FILL) lowest++;
-    printf("Stack of a read: %td bytes.\n", frame - lowest);
+    return frame - lowest;
+}
+
+int main(void) {
+    clochecloak_publish(table, CLOCHECLOAK_TABLE);
+    printf("Stack of a read: %td bytes; in microradians: %td bytes.\n", depth(reads), depth(reads_microradians));
     return 0;
 }
