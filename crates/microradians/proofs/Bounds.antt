@@ -1,22 +1,21 @@
 -- How large what is summed down is: no multiplication makes a number larger, so n numbers come to at most n times the largest.
 --   times-size              a product with a reading of at most a radian
---   number-size             a number of a group
---   row-size, group-size    a row and a group of a block, from a power on
+--   row-size, group-size    a row and a group, from a power on
 use mathlib.Core.Path.{_≡_}
 use mathlib.Core.List.{List}
 use Prim.Native.Nat.{ℕ, zero, suc, _+_, _-_, _*_, _≤_, _<_}
 use native.Mathlib.Nat as N
 use native.Mathlib.Omega.{arith}
-use lib.IntN.{ℤ, pos, natAbs, _+ℤ_, _*ℤ_}
-use lib.ListN.{getD}
+use lib.IntN.{ℤ, natAbs, _+ℤ_, _*ℤ_}
 use Rattle.whole.proofs.Magnitudes.{natAbs-+, natAbs-*}
 use Rattle.whole.proofs.Nearest.{nearest-size}
 use Rattle.polynomials.specs.Numbers.{ints}
 use Rattle.polynomials.specs.Order.{place}
+use Rattle.polynomials.specs.Group.{number}
 use Rattle.polynomials.specs.Downward.{down, rowDownward}
 use Rattle.cumulus.specs.Model.{microradians}
-use Rattle.microradians.specs.Fixed.{perPrinted, _⊛_}
-use Rattle.microradians.specs.Ready.{numbersAt, largest, most, Placed, Near}
+use Rattle.microradians.specs.Fixed.{_⊛_}
+use Rattle.microradians.specs.Ready.{largest, most, Placed, Near}
 
 pub times-size : (a r : ℤ) → Near r → natAbs (a ⊛ r) ≤ natAbs a
 times-size a r h = nearest-size (microradians .radian) (omega arith) (a *ℤ r) (natAbs a) (omega (arith, natAbs-* a r, N.mul-le-mul-left (natAbs a) h))
@@ -32,17 +31,17 @@ module _ (g : ℕ → ℤ) (r : ℤ) (b : ℕ) (h : (k : ℕ) → natAbs (g k) �
   five : (k p : ℕ) → k ≤ 4 → natAbs (down ints _⊛_ g r k p) ≤ 5 * b
   five k p l = N.le-trans (down-size k p) (N.mul-le-mul-right b (N.suc-le-suc-iff .1 l))
 
-module _ {l : List ℤ} {start degree : ℕ} (placed : Placed l start degree) (x y : ℤ) (hx : Near x) (hy : Near y) where
-  pub number-size : (p q : ℕ) → natAbs (numbersAt l start p q) ≤ largest
-  number-size p q =
-      N.le-trans (N.le-of-eq (natAbs-* (pos perPrinted) (getD l (start + place p q) (pos 0)))) (N.mul-le-mul-left perPrinted (placed .small (start + place p q)))
+module _ {l : List ℤ} {degree : ℕ} (placed : Placed l degree) (x y : ℤ) (hx : Near x) (hy : Near y) where
+  number-size : (p q : ℕ) → natAbs (number ints l p q) ≤ largest
+  unfolding number
+  number-size p q = placed .small (place p q)
 
-  row-five : (q k p : ℕ) → k ≤ degree → natAbs (down ints _⊛_ (λ i. numbersAt l start i q) x k p) ≤ 5 * largest
-  row-five q k p h = five (λ i. numbersAt l start i q) x largest (λ i. number-size i q) hx k p (omega (arith, placed .low))
+  row-five : (q k p : ℕ) → k ≤ degree → natAbs (down ints _⊛_ (λ i. number ints l i q) x k p) ≤ 5 * largest
+  row-five q k p h = five (λ i. number ints l i q) x largest (λ i. number-size i q) hx k p (omega (arith, placed .low))
 
-  pub row-size : (q k p : ℕ) → k ≤ degree → natAbs (down ints _⊛_ (λ i. numbersAt l start i q) x k p) ≤ most
+  pub row-size : (q k p : ℕ) → k ≤ degree → natAbs (down ints _⊛_ (λ i. number ints l i q) x k p) ≤ most
   row-size q k p h = omega (arith, row-five q k p h)
 
-  pub group-size : (k q : ℕ) → k ≤ degree → natAbs (down ints _⊛_ (rowDownward ints _⊛_ degree (numbersAt l start) x) y k q) ≤ most
+  pub group-size : (k q : ℕ) → k ≤ degree → natAbs (down ints _⊛_ (rowDownward ints _⊛_ degree (number ints l) x) y k q) ≤ most
   group-size k q h =
-      five (rowDownward ints _⊛_ degree (numbersAt l start) x) y (5 * largest) (λ q. row-five q (degree - q) 0 (omega arith)) hy k q (omega (arith, placed .low))
+      five (rowDownward ints _⊛_ degree (number ints l) x) y (5 * largest) (λ q. row-five q (degree - q) 0 (omega arith)) hy k q (omega (arith, placed .low))

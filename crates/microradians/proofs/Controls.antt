@@ -12,9 +12,9 @@ use Rattle.polynomials.specs.Downward.{down, rowDownward}
 use Rattle.layout.specs.Refusals.{first}
 use Rattle.layout.specs.Reading.{readings}
 use Rattle.cumulus.specs.Model.{C-X}
-use Rattle.microradians.specs.Fixed.{_⊛_, nano}
+use Rattle.microradians.specs.Fixed.{_⊛_, nano, kindAt, partAt}
 use Rattle.microradians.specs.Answer.{limits, answers, fineNumber, fineOutput}
-use Rattle.microradians.proofs.Held.{kindAt, partAt, valueAt}
+use Rattle.microradians.proofs.Held.{valueAt}
 use Rattle.microradians.proofs.Slack.{products, multiplications}
 
 -- ════ products: 0.5 and -0.5 units go away from zero, less than that to 0

@@ -1,136 +1,70 @@
--- What a block of printed numbers holds, and that it fits.
---   kindAt, partAt, valueAt   the groups of a block by their numbers 0 to 3: kinds, polynomials, and values in fixed point
---   Found                     a group where the code finds it: it stands there, and what the code sums is that value, which is small
+-- What the groups hold, and that it fits.
+--   valueAt      the value in fixed point of the group i of a coefficient
+--   Found        the numbers that the code finds for it: they are those of a group of that degree, and what the code sums is that value, which is small
 --   pitch-found, xi-found, zeta-found   the groups that the code reads
 --   answer-is, sides-fit, all-fit       the three groups of a piece: they come to the answer, in numbers that fit
-use mathlib.Core.Path.{_≡_, refl, sym, _∙_, ap}
+use mathlib.Core.Path.{_≡_, refl, sym, _∙_, ap, ap₂}
 use mathlib.Core.Bool.{true}
-use mathlib.Core.List.{List, [], _∷_, _++_}
-use Prim.Native.Nat.{ℕ, zero, suc, _+_, _-_, _*_, _≤_, _<_}
+use mathlib.Core.List.{List}
+use Prim.Native.Nat.{ℕ, zero, suc, _+_, _*_, _/_, _%_, _≤_, _<_}
 use native.Mathlib.Nat as N
 use native.Mathlib.Decide.{decLt}
 use native.Mathlib.Omega.{arith}
 use borrow.Author.Tests.{leb-true}
 use lib.Dec.{leb}
 use lib.IntN.{ℤ, pos, natAbs, _+ℤ_, _*ℤ_, +ℤ-idl, +ℤ-idr}
-use lib.ListN.{length, take, getD, List·getD-append, List·getD-eq-default}
+use lib.ListN.{length, getD, List·getD-eq-default}
 use mir.Syntax.{w64}
 use mir.Val.{SFits}
-use Rattle.whole.proofs.Ring.{*ℤ-unit}
 use Rattle.whole.proofs.Magnitudes.{natAbs-+}
 use Rattle.whole.proofs.Machine.{natAbs-sfits}
 use Rattle.polynomials.specs.Numbers.{ints}
 use Rattle.polynomials.specs.Order.{powers, below, size, place}
 use Rattle.polynomials.specs.Sum.{listed}
+use Rattle.polynomials.specs.Group.{number}
 use Rattle.polynomials.specs.Limits.{highestDegree}
 use Rattle.polynomials.specs.Downward.{downward}
 use Rattle.polynomials.proofs.Listed.{length-listed, getD-listed}
-use Rattle.polynomials.proofs.Places.{place-below}
+use Rattle.polynomials.proofs.Places.{below-mono, place-below}
 use Rattle.polynomials.proofs.Downward.{downward-ext}
-use Rattle.layout.specs.Shape.{Kind, kindsLength, cumulus}
-use Rattle.layout.specs.Blocks.{piece, laidOut}
+use Rattle.layout.specs.Shape.{cumulus}
+use Rattle.layout.specs.Blocks.{piece}
 use Rattle.layout.specs.Limits.{every}
-use Rattle.layout.specs.Numbers.{pitchSize, xiStart, zetaStart, blockSize}
 use Rattle.layout.proofs.Tests.{every-all}
-use Rattle.cumulus.specs.Notation.{Polynomial}
 use Rattle.cumulus.specs.Model.{Coefficient, coefficientAt}
-use Rattle.cumulus.specs.Stored.{printedAt, group, byKind, parts, printedBlock}
-use Rattle.microradians.specs.Fixed.{perPrinted, _⊛_, nano, rounded}
+use Rattle.cumulus.specs.Stored.{printedAt}
+use Rattle.microradians.specs.Fixed.{perPrinted, _⊛_, nano, rounded, groupCount, kindAt, partAt, fineNumbers, fineGroup}
 use Rattle.microradians.specs.Answer.{answerIn}
-use Rattle.microradians.specs.Ready.{numbersAt, largestPrinted, most, Placed, Near, AllNear}
+use Rattle.microradians.specs.Ready.{largest, most, Placed, Near, AllNear}
 use Rattle.microradians.proofs.Bounds.{group-size}
 
--- ════ groups one after another
-append-right : (l m : List ℤ) (i : ℕ) → getD (l ++ m) (length l + i) (pos 0) ≡ getD m i (pos 0)
-append-right [] m i = ap (λ n. getD m n (pos 0)) (N.zero-add i)
-append-right (a ∷ l) m i = ap (λ n. getD (a ∷ (l ++ m)) n (pos 0)) (N.suc-add (length l) i) ∙ append-right l m i
+-- ════ the numbers of a group
+abbrev numbersOf : ℕ → ℕ → List ℤ
+numbersOf b i = fineNumbers (kindAt i) (partAt (coefficientAt b) i)
 
--- the first of them, and those behind it
-module _ (k : Kind) (f : Polynomial) where
-  abbrev numbers : List ℤ
-  numbers = group (λ n. 1) k f .numbers
-
-  first-held : (m : List ℤ) (j : ℕ) → j < size (k .degree) → getD (numbers ++ m) j (pos 0) ≡ printedAt k f j
-  first-held m j h =
-      List·getD-append numbers m (pos 0) j (omega (arith, length-listed (size (k .degree)) (λ i. printedAt k f i *ℤ pos 1)))
-      ∙ getD-listed (size (k .degree)) (λ i. printedAt k f i *ℤ pos 1) j (pos 0) h ∙ *ℤ-unit (printedAt k f j)
-
-  past-first : (m : List ℤ) (j : ℕ) → getD (numbers ++ m) (size (k .degree) + j) (pos 0) ≡ getD m j (pos 0)
-  past-first m j = ap (λ n. getD (numbers ++ m) (n + j) (pos 0)) (sym (length-listed (size (k .degree)) (λ i. printedAt k f i *ℤ pos 1))) ∙ append-right numbers m j
-
--- the i-th of several; the last argument stands where there is none
-held : (ks : List Kind) (fs : List Polynomial) (i j : ℕ) (z : Kind) → i < length ks → i < length fs → j < size (getD ks i z .degree)
-    → getD (laidOut (byKind (group (λ n. 1)) ks fs)) (kindsLength (take i ks) + j) (pos 0) ≡ printedAt (getD ks i z) (getD fs i []) j
-unfolding laidOut kindsLength
-held [] fs i j z h l m = absurd (omega arith)
-held (k ∷ ks) [] i j z h l m = absurd (omega arith)
-held (k ∷ ks) (f ∷ fs) zero j z h l m =
-    ap (λ n. getD (laidOut (byKind (group (λ n. 1)) (k ∷ ks) (f ∷ fs))) n (pos 0)) (N.zero-add j) ∙ first-held k f _ j m
-held (k ∷ ks) (f ∷ fs) (suc i) j z h l m =
-    ap (λ n. getD (laidOut (byKind (group (λ n. 1)) (k ∷ ks) (f ∷ fs))) n (pos 0)) (N.add-assoc (size (k .degree)) (kindsLength (take i ks)) j)
-    ∙ past-first k f _ (kindsLength (take i ks) + j) ∙ held ks fs i j z (omega arith) (omega arith) m
-
--- ════ the groups of a block, by their numbers 0 to 3
-abbrev pub kindAt : ℕ → Kind
-kindAt i = getD (cumulus .kinds) i (record { u = 0; v = 0; degree = 0; low = true; high = true })
-
-abbrev pub partAt : Coefficient → ℕ → Polynomial
-partAt C i = getD (parts C) i []
-
-abbrev startOf : ℕ → ℕ
-startOf i = kindsLength (take i (cumulus .kinds))
-
--- ════ what they hold
-block-long : (C : Coefficient) → length (printedBlock C) ≡ blockSize
-unfolding laidOut listed below
-block-long C = refl
-
-all-low : every 4 (λ i. leb (kindAt i .degree) highestDegree) ≡ true
-unfolding every
-all-low = refl
-
-all-room : every 4 (λ i. leb (startOf i + size (kindAt i .degree)) blockSize) ≡ true
-unfolding every kindsLength below
-all-room = refl
+counted : (b i : ℕ) → i < groupCount → fineGroup (groupCount * b + i) ≡ numbersOf b i
+counted b i h =
+    let e : (groupCount * b + i) / groupCount ≡ b = omega arith in
+    let f : (groupCount * b + i) % groupCount ≡ i = omega arith in
+    ap₂ (λ c k. numbersOf c k) e f
 
 -- the one computed fact over the constants
-all-small : every (cumulus .blocks) (λ b. every blockSize (λ k. leb (natAbs (getD (printedBlock (coefficientAt b)) k (pos 0))) largestPrinted)) ≡ true
-unfolding every laidOut listed powers below
+all-small : every (cumulus .blocks) (λ b. every groupCount (λ i. every (size highestDegree) (λ k. leb (natAbs (getD (numbersOf b i) k (pos 0))) largest))) ≡ true
+unfolding every listed below
 all-small = refl
 
-printed-small : (b k : ℕ) → b < cumulus .blocks → natAbs (getD (printedBlock (coefficientAt b)) k (pos 0)) ≤ largestPrinted
-printed-small b k h = by (decLt k blockSize)
-  where
-    l : List ℤ
-    l = printedBlock (coefficientAt b)
+module _ (b i : ℕ) (h : b < cumulus .blocks) (l : i < groupCount) where
+  long : length (numbersOf b i) ≡ size highestDegree
+  long = length-listed (size highestDegree) _
 
-    by : Dec (k < blockSize) → natAbs (getD l k (pos 0)) ≤ largestPrinted
-    by (yes m) = leb-true _ largestPrinted (every-all blockSize _ (every-all (cumulus .blocks) _ all-small b h) k m)
-    by (no m) = rw (List·getD-eq-default l (pos 0) {n = k} (omega (arith, block-long (coefficientAt b)))) (omega arith)
+  small : (k : ℕ) → natAbs (getD (numbersOf b i) k (pos 0)) ≤ largest
+  small k = by (decLt k (size highestDegree))
+    where
+      by : Dec (k < size highestDegree) → natAbs (getD (numbersOf b i) k (pos 0)) ≤ largest
+      by (yes m) = leb-true _ largest (every-all (size highestDegree) _ (every-all groupCount _ (every-all (cumulus .blocks) _ all-small b h) i l) k m)
+      by (no m) = rw (List·getD-eq-default (numbersOf b i) (pos 0) {n = k} (omega (arith, long))) (omega arith)
 
-module _ (b i : ℕ) (h : b < cumulus .blocks) (l : i < 4) where
-  abbrev C : Coefficient
-  C = coefficientAt b
-
-  number-held : (p q : ℕ) → p + q ≤ kindAt i .degree → numbersAt (printedBlock C) (startOf i) p q ≡ nano (kindAt i) (partAt C i) p q
-  number-held p q m = ap (λ z. pos perPrinted *ℤ z) (held (cumulus .kinds) (parts C) i (place p q) _ l l (place-below (suc (kindAt i .degree)) p q (omega arith)))
-
-  placed : Placed (printedBlock C) (startOf i) (kindAt i .degree)
-  placed =
-      record {
-        low = leb-true (kindAt i .degree) highestDegree (every-all 4 _ all-low i l);
-        room = rw (block-long C) (leb-true (startOf i + size (kindAt i .degree)) blockSize (every-all 4 _ all-room i l));
-        small = λ k. printed-small b k h;
-      }
-
-  module _ (x y : ℤ) where
-    group-held : downward ints _⊛_ (kindAt i .degree) (numbersAt (printedBlock C) (startOf i)) x y ≡ downward ints _⊛_ (kindAt i .degree) (nano (kindAt i) (partAt C i)) x y
-    group-held = downward-ext ints _⊛_ (kindAt i .degree) _ _ x y number-held
-
-    value-size : Near x → Near y → natAbs (downward ints _⊛_ (kindAt i .degree) (nano (kindAt i) (partAt C i)) x y) ≤ most
-    value-size hx hy = N.le-trans (N.le-of-eq (ap natAbs (sym group-held))) (group-size placed x y hx hy (kindAt i .degree) 0 (N.le-refl _))
-
--- ════ the three groups of a piece together
+-- ════ the values
 module _ (C : Coefficient) (x : ℕ → ℤ) where
   abbrev pub valueAt : ℕ → ℤ
   valueAt i = rounded x (kindAt i) (partAt C i)
@@ -140,29 +74,45 @@ module _ (C : Coefficient) (x : ℕ → ℤ) where
   answer-is (suc zero) h = sym (+ℤ-idl _ ∙ ap (λ z. valueAt 1 +ℤ (valueAt 2 +ℤ z)) (+ℤ-idr (valueAt 3)))
   answer-is (suc (suc n)) h = absurd (omega arith)
 
--- a group as the code finds it: where it starts, its degree and its variables
-pub record Found (b start degree u v i : ℕ) : Type 0 where
-  pub stands : Placed (printedBlock (coefficientAt b)) start degree
-  pub value : (x : ℕ → ℤ) → downward ints _⊛_ degree (numbersAt (printedBlock (coefficientAt b)) start) (x u) (x v) ≡ valueAt (coefficientAt b) x i
+pub record Found (b i degree u v : ℕ) : Type 0 where
+  pub placed : Placed (fineGroup (groupCount * b + i)) degree
+  pub value : (x : ℕ → ℤ) → downward ints _⊛_ degree (number ints (fineGroup (groupCount * b + i))) (x u) (x v) ≡ valueAt (coefficientAt b) x i
   pub size : (x : ℕ → ℤ) → Near (x u) → Near (x v) → natAbs (valueAt (coefficientAt b) x i) ≤ most
 
-found : (b i : ℕ) → b < cumulus .blocks → i < 4 → Found b (startOf i) (kindAt i .degree) (kindAt i .u) (kindAt i .v) i
-found b i h l = record { stands = placed b i h l; value = λ x. group-held b i h l _ _; size = λ x. value-size b i h l _ _ }
+module _ (b i : ℕ) (h : b < cumulus .blocks) (l : i < groupCount) (d : kindAt i .degree ≤ highestDegree) where
+  abbrev degree : ℕ
+  degree = kindAt i .degree
 
-pub pitch-found : (b n : ℕ) → b < cumulus .blocks → n < 2 → Found b (pitchSize * n) 3 0 3 n
-unfolding kindsLength below
-pitch-found b zero h l = found b 0 h (omega arith)
-pitch-found b (suc zero) h l = found b 1 h (omega arith)
+  stands : Placed (numbersOf b i) degree
+  stands = record { low = d; room = omega (arith, long b i h l, below-mono (suc degree) (suc highestDegree) (omega arith)); small = small b i h l }
+
+  number-is : (p q : ℕ) → p + q ≤ degree → number ints (numbersOf b i) p q ≡ nano (kindAt i) (partAt (coefficientAt b) i) p q
+  unfolding number
+  number-is p q m = getD-listed (size highestDegree) (λ k. printedAt (kindAt i) (partAt (coefficientAt b) i) k *ℤ pos perPrinted) (place p q) (pos 0) (place-below (suc highestDegree) p q (omega arith))
+
+  value-is : (x : ℕ → ℤ) → downward ints _⊛_ degree (number ints (numbersOf b i)) (x (kindAt i .u)) (x (kindAt i .v)) ≡ valueAt (coefficientAt b) x i
+  value-is x = downward-ext ints _⊛_ degree _ _ _ _ number-is
+
+  found : Found b i degree (kindAt i .u) (kindAt i .v)
+  found =
+      record {
+        placed = rw (counted b i l) stands;
+        value = λ x. rw (counted b i l) (value-is x);
+        size = λ x hu hv. N.le-trans (N.le-of-eq (ap natAbs (sym (value-is x)))) (group-size stands (x (kindAt i .u)) (x (kindAt i .v)) hu hv degree 0 (N.le-refl _));
+      }
+
+pub pitch-found : (b n : ℕ) → b < cumulus .blocks → n < 2 → Found b n 3 0 3
+pitch-found b zero h l = found b 0 h (omega arith) (omega arith)
+pitch-found b (suc zero) h l = found b 1 h (omega arith) (omega arith)
 pitch-found b (suc (suc n)) h l = absurd (omega arith)
 
-pub xi-found : (b : ℕ) → b < cumulus .blocks → Found b xiStart 4 1 2 2
-unfolding kindsLength below
-xi-found b h = found b 2 h (omega arith)
+pub xi-found : (b : ℕ) → b < cumulus .blocks → Found b 2 4 1 2
+xi-found b h = found b 2 h (omega arith) (omega arith)
 
-pub zeta-found : (b : ℕ) → b < cumulus .blocks → Found b zetaStart 4 1 4 3
-unfolding kindsLength below
-zeta-found b h = found b 3 h (omega arith)
+pub zeta-found : (b : ℕ) → b < cumulus .blocks → Found b 3 4 1 4
+zeta-found b h = found b 3 h (omega arith) (omega arith)
 
+-- ════ the three groups of a piece
 module _ (b n : ℕ) (h : b < cumulus .blocks) (l : n < 2) (x : ℕ → ℤ) (near : AllNear x) where
   abbrev v : ℕ → ℤ
   v = valueAt (coefficientAt b) x

@@ -1,6 +1,6 @@
 -- The laws of the read in microradians. Each file's head lists what it gives.
 --   Bounds   how large what is summed down is
---   Held     what a block of printed numbers holds, and that it fits
+--   Held     what the block of a coefficient holds, and that it fits
 --   Answers  which number is given back, and what is left
 --   Off      how far a value in fixed point is off
 --   Slack    the same, followed through the sums from the highest power down

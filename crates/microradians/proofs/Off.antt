@@ -28,7 +28,7 @@ M = microradians .radian
 pub record Off (m n : ℕ) (v e : ℤ) : Type 0 where
   pub off : 2 * natAbs (pos m *ℤ v -ℤ pos perPrinted *ℤ e) ≤ n
 
-split-exact : (m a c : ℤ) → m *ℤ (a *ℤ c) -ℤ a *ℤ (c *ℤ m) ≡ pos 0
+split-exact : (m a c : ℤ) → m *ℤ (c *ℤ a) -ℤ a *ℤ (c *ℤ m) ≡ pos 0
 split-exact m a c = ring3 m a c (λ ρ e f g. simp (quote, quote-pos ρ, e, f, g) (by _ _ _ tt))
 
 split-sum : (m a v w e f : ℤ) → m *ℤ (v +ℤ w) -ℤ a *ℤ (e +ℤ f) ≡ (m *ℤ v -ℤ a *ℤ e) +ℤ (m *ℤ w -ℤ a *ℤ f)
@@ -38,7 +38,7 @@ split-sum m a v w e f = ring6 m a v w e f (λ ρ g h i j k l. simp (quote, g, h,
 split-times : (m k t v r b : ℤ) → m *ℤ k *ℤ t -ℤ b *ℤ r ≡ m *ℤ (k *ℤ t -ℤ v *ℤ r) +ℤ (m *ℤ v -ℤ b) *ℤ r
 split-times m k t v r b = ring6 m k t v r b (λ ρ a c d e f g. simp (quote, a, c, d, e, f, g) (by _ _ _ tt))
 
-pub off-exact : (m : ℕ) (c : ℤ) → Off m 0 (pos perPrinted *ℤ c) (c *ℤ pos m)
+pub off-exact : (m : ℕ) (c : ℤ) → Off m 0 (c *ℤ pos perPrinted) (c *ℤ pos m)
 off-exact m c = record { off = rw (split-exact (pos m) (pos perPrinted) c) (omega arith) }
 
 pub off-+ : {m a b : ℕ} {v w e f : ℤ} → Off m a v e → Off m b w f → Off m (a + b) (v +ℤ w) (e +ℤ f)

@@ -78,7 +78,7 @@ module _ (f : ℕ → ℕ → ℤ) (d D : ℕ) where
   groupSlack R T = slack T D row-silent (rowSlack R) d 0
 
   abbrev pub nanos : ℕ → ℕ → ℤ
-  nanos p q = pos perPrinted *ℤ f p q
+  nanos p q = f p q *ℤ pos perPrinted
 
   abbrev pub exactly : ℕ → ℕ → ℤ
   exactly p q = f p q *ℤ pos (M ^ (D - (p + q)))
@@ -86,7 +86,7 @@ module _ (f : ℕ → ℕ → ℤ) (d D : ℕ) where
   nil-at : (q p : ℕ) → zero-at q p ≡ true → (nanos p q ≡ pos 0) × (exactly p q ≡ pos 0)
   nil-at q p e =
       let z = natAbs-zero (f p q) (eqb-true (natAbs (f p q)) 0 e) in
-      (ap (λ a. pos perPrinted *ℤ a) z, ap (λ a. a *ℤ pos (M ^ (D - (p + q)))) z ∙ nil-mul whole (pos (M ^ (D - (p + q)))))
+      (ap (λ a. a *ℤ pos perPrinted) z, ap (λ a. a *ℤ pos (M ^ (D - (p + q)))) z ∙ nil-mul whole (pos (M ^ (D - (p + q)))))
 
   module _ (x y : ℤ) (R T : ℕ) (hx : natAbs x ≤ R) (hy : natAbs y ≤ T) (b : d ≤ D) where
     row-nil : (q : ℕ) → row-silent q ≡ true → (rowDownward ints _⊛_ d nanos x q ≡ pos 0) × (rowDownward ints _*ℤ_ d exactly x q ≡ pos 0)

@@ -1,23 +1,24 @@
 // The published table read in microradians: fixed point in units of 10^-9, one rounding for each multiplication.
+mod numbers;
+
 use cumulus::CUT_MICRORADIANS;
-use cumulus::ENVELOPE;
-use cumulus::printed;
+use cumulus::PUBLISHED;
 use layout::BLOCKS;
 use layout::LIMITS;
-use layout::PITCH;
 use layout::VARIABLES;
-use layout::XI_START;
-use layout::ZETA_START;
 use layout::refusals::DONE;
 use layout::refusals::WRONG_OUTPUT;
 use limits::Limits;
+use numbers::GROUPS;
+use numbers::numbers_of;
 ghost use mathlib.Core.Path.{_≡_};
 ghost use Prim.Native.Nat.{_+_, _-_, _<_, _≤_};
-ghost use lib.IntN.{pos, natAbs};
-ghost use lib.ListN.{length, getD};
+ghost use lib.IntN.{natAbs};
+ghost use lib.ListN.{length};
 ghost use Rattle.polynomials.specs.Numbers.{ints};
 ghost use Rattle.polynomials.specs.Order.{place};
 ghost use Rattle.polynomials.specs.Sum.{listed};
+ghost use Rattle.polynomials.specs.Group.{number};
 ghost use Rattle.polynomials.specs.Limits.{highestDegree};
 ghost use Rattle.polynomials.specs.Downward.{rowDownward, downward};
 ghost use Rattle.layout.specs.Shape.{cumulus};
@@ -26,15 +27,17 @@ ghost use Rattle.layout.specs.Reading.{readings};
 ghost use Rattle.cumulus.specs.Model.{coefficientAt};
 ghost use Rattle.microradians.specs.Fixed.{_⊛_};
 ghost use Rattle.microradians.specs.Answer.{answerIn, fineNumber, fineOutput};
-ghost use Rattle.microradians.specs.Ready.{numbersAt, largestPrinted, most, Placed, Near, AllNear};
+ghost use Rattle.microradians.specs.Ready.{most, Placed, Near, AllNear};
 
 // Microradians in a radian, and in a milliradian.
 const RADIAN: i64 = 1_000_000;
 
 const MILLIRADIAN: i64 = 1_000;
 
-// A printed number has units of 10^-5: in units of 10^-9 it is so many times as large.
-const PER_PRINTED: i64 = 10_000;
+// Of the groups of a block, those in beta come behind the low and the high one.
+const XI: usize = 2;
+
+const ZETA: usize = 3;
 
 // The degrees of the groups in alpha and eta, and of those in beta.
 const PITCH_DEGREE: usize = 3;
@@ -43,17 +46,17 @@ const SIDE_DEGREE: usize = 4;
 
 // The envelope in microradians, as a table has its limits.
 const FINE_ENVELOPE: [i64; LIMITS] = [
-    MILLIRADIAN * ENVELOPE[0],
+    MILLIRADIAN * PUBLISHED[0],
     CUT_MICRORADIANS,
-    MILLIRADIAN * ENVELOPE[2],
-    MILLIRADIAN * ENVELOPE[3],
-    MILLIRADIAN * ENVELOPE[4],
-    MILLIRADIAN * ENVELOPE[5],
-    MILLIRADIAN * ENVELOPE[6],
-    MILLIRADIAN * ENVELOPE[7],
-    MILLIRADIAN * ENVELOPE[8],
-    MILLIRADIAN * ENVELOPE[9],
-    MILLIRADIAN * ENVELOPE[10],
+    MILLIRADIAN * PUBLISHED[2],
+    MILLIRADIAN * PUBLISHED[3],
+    MILLIRADIAN * PUBLISHED[4],
+    MILLIRADIAN * PUBLISHED[5],
+    MILLIRADIAN * PUBLISHED[6],
+    MILLIRADIAN * PUBLISHED[7],
+    MILLIRADIAN * PUBLISHED[8],
+    MILLIRADIAN * PUBLISHED[9],
+    MILLIRADIAN * PUBLISHED[10],
 ];
 
 // A number times a reading, to the nearest whole number, a half away from zero.
@@ -65,41 +68,40 @@ fn times(a: i64, r: i64) -> i64
     whole::nearest_away(product, RADIAN)
 }
 
-// The number before the powers p and q in the group that starts at a place of a block.
-fn number_at(block: &[i64], start: usize, p: usize, q: usize) -> i64
-    requires { ⌜ (p + q ≤ highestDegree) × (start + place p q < length (now block)) ⌝ }
-    requires { ⌜ natAbs (getD (now block) (start + place p q) (pos 0)) ≤ largestPrinted ⌝ }
-    ensures { λ r. ⌜ r ≡ numbersAt (now (block .entry)) start p q ⌝ }
+// The number before the powers p and q in a group.
+fn number_at(group: &[i64], p: usize, q: usize) -> i64
+    requires { ⌜ (p + q ≤ highestDegree) × (place p q < length (now group)) ⌝ }
+    ensures { λ r. ⌜ r ≡ number ints (now (group .entry)) p q ⌝ }
 {
     let degree = p + q;
-    let at = start + (degree * (degree + 1) / 2 + q);
-    PER_PRINTED * block[at]
+    let at = degree * (degree + 1) / 2 + q;
+    group[at]
 }
 
 // The numbers beside the power q of the second variable, from the highest power of the first down.
-fn row_at(block: &[i64], start: usize, degree: usize, q: usize, x: i64) -> i64
-    requires { ⌜ Placed (now block) start degree × ((q ≤ degree) × Near x) ⌝ }
-    ensures { λ r. ⌜ r ≡ rowDownward ints _⊛_ degree (numbersAt (now (block .entry)) start) x q ⌝ }
+fn row_at(group: &[i64], degree: usize, q: usize, x: i64) -> i64
+    requires { ⌜ Placed (now group) degree × ((q ≤ degree) × Near x) ⌝ }
+    ensures { λ r. ⌜ r ≡ rowDownward ints _⊛_ degree (number ints (now (group .entry))) x q ⌝ }
 {
     let mut p = degree - q;
-    let mut row = number_at(block, start, p, q);
+    let mut row = number_at(group, p, q);
     while p > 0 {
         p -= 1;
-        row = times(row, x) + number_at(block, start, p, q);
+        row = times(row, x) + number_at(group, p, q);
     }
     row
 }
 
 // The rows of a group, from the highest power of the second variable down.
-fn group_at(block: &[i64], start: usize, degree: usize, x: i64, y: i64) -> i64
-    requires { ⌜ Placed (now block) start degree × (Near x × Near y) ⌝ }
-    ensures { λ r. ⌜ r ≡ downward ints _⊛_ degree (numbersAt (now (block .entry)) start) x y ⌝ }
+fn group_at(group: &[i64], degree: usize, x: i64, y: i64) -> i64
+    requires { ⌜ Placed (now group) degree × (Near x × Near y) ⌝ }
+    ensures { λ r. ⌜ r ≡ downward ints _⊛_ degree (number ints (now (group .entry))) x y ⌝ }
 {
     let mut q = degree;
-    let mut sum = row_at(block, start, degree, q, x);
+    let mut sum = row_at(group, degree, q, x);
     while q > 0 {
         q -= 1;
-        sum = times(sum, y) + row_at(block, start, degree, q, x);
+        sum = times(sum, y) + row_at(group, degree, q, x);
     }
     sum
 }
@@ -109,11 +111,13 @@ fn coefficient_at(block: usize, piece: usize, state: [i64; VARIABLES]) -> i64
     requires { ⌜ (block < cumulus .blocks) × ((piece < 2) × AllNear (readings state)) ⌝ }
     ensures { λ r. ⌜ r ≡ answerIn (pieceOf piece) (coefficientAt block) (readings state) ⌝ }
 {
-    let numbers = printed(block);
-    let pitch = group_at(&numbers, PITCH * piece, PITCH_DEGREE, state[0], state[3]);
-    let aileron = group_at(&numbers, XI_START, SIDE_DEGREE, state[1], state[2]);
-    let rudder = group_at(&numbers, ZETA_START, SIDE_DEGREE, state[1], state[4]);
-    pitch + (aileron + rudder)
+    let first = GROUPS * block;
+    let pitch = numbers_of(first + piece);
+    let aileron = numbers_of(first + XI);
+    let rudder = numbers_of(first + ZETA);
+    group_at(&pitch, PITCH_DEGREE, state[0], state[3])
+        + (group_at(&aileron, SIDE_DEGREE, state[1], state[2])
+            + group_at(&rudder, SIDE_DEGREE, state[1], state[4]))
 }
 
 // Every coefficient at the state, in the low piece (0) or the high one.

@@ -3,6 +3,7 @@
 --   place-rises                  a larger power of u, or of v, stands later
 --   place-first, place-second    how much later, for one power more
 --   degree-place                 a place is at least the total degree that stands there
+--   below-mono                   more degrees have more numbers
 --   degree-powers                below `below n` stand total degrees below n
 --   powers-more                  what stands at the next place
 --   next-degree, next-same       the step from one place to the next, as the code takes it
@@ -24,7 +25,7 @@ pub below-grows : (n j : ℕ) → below n + j ≤ below (n + j)
 below-grows n zero = omega (arith, ap below (N.add-zero n))
 below-grows n (suc j) = omega (arith, below-grows n j, below-suc (n + j), ap below (N.add-suc n j))
 
-below-mono : (m n : ℕ) → m ≤ n → below m ≤ below n
+pub below-mono : (m n : ℕ) → m ≤ n → below m ≤ below n
 below-mono m n h = let e : m + (n - m) ≡ n = omega arith in omega (arith, below-grows m (n - m), ap below e)
 
 pub degree-place : (p q : ℕ) → p + q ≤ place p q

@@ -188,9 +188,6 @@ pub move-datum-tight : Tight moving.move_datum.ended moving.move_datum.Reads.Pos
 move-datum-tight κs a o p = tight o p (search same)
 
 -- ════ cumulus
-pub printed-tight : Tight cumulus.printed.ended cumulus.printed.Reads.Post
-printed-tight κs a o p = tight o p (search same)
-
 pub publish-tight : Tight cumulus.publish.ended cumulus.publish.Reads.Post
 publish-tight κs a o p = tight o p (search same)
 

@@ -11,20 +11,21 @@ use mir.Val.{SFits, toZ, ofZ}
 use mir.Facts.{toZ-ofZ}
 use Rattle.whole.proofs.Machine.{natAbs-sfits, op-bits, op-back}
 use Rattle.polynomials.specs.Numbers.{ints}
+use Rattle.polynomials.specs.Group.{number}
 use Rattle.polynomials.specs.Downward.{down, rowDownward, downward}
 use Rattle.polynomials.proofs.Downward.{down-start, down-more}
 use Rattle.microradians.specs.Fixed.{_⊛_}
-use Rattle.microradians.specs.Ready.{numbersAt, most, Near}
+use Rattle.microradians.specs.Ready.{most, Near}
 use Rattle.microradians.proofs.Bounds.{group-size}
 use Rattle.microradians.proofs.group_at.Statement.{statement}
 use Rattle.microradians.proofs.group_at.Tie as tie
 
 abbrev Inv-loop : tie.InvT-loop
-Inv-loop block start degree x y q₀ sum₀ q sum =
-    (q ≤ degree) × (toZ w64 sum ≡ down ints _⊛_ (rowDownward ints _⊛_ degree (numbersAt block start) (toZ w64 x)) (toZ w64 y) (degree - q) q)
+Inv-loop group degree x y q₀ sum₀ q sum =
+    (q ≤ degree) × (toZ w64 sum ≡ down ints _⊛_ (rowDownward ints _⊛_ degree (number ints group) (toZ w64 x)) (toZ w64 y) (degree - q) q)
 
 abbrev μ-loop : tie.MeasureT-loop
-μ-loop block start degree x y q₀ sum₀ q sum = q
+μ-loop group degree x y q₀ sum₀ q sum = q
 
 -- ════ at the start
 module _ (c : tie.Start Inv-loop μ-loop) where
@@ -41,11 +42,11 @@ module _ (c : tie.Start Inv-loop μ-loop) where
   near-y : Near y
   near-y = rw (toZ-ofZ (c .fits .y)) (c .pre .1 .1)
 
-  abbrev number : ℕ → ℕ → ℤ
-  number = numbersAt (c .args .block .now) (c .args .start)
+  abbrev number-of : ℕ → ℕ → ℤ
+  number-of = number ints (c .args .group .now)
 
   abbrev row : ℕ → ℤ
-  row = rowDownward ints _⊛_ (c .args .degree) number x
+  row = rowDownward ints _⊛_ (c .args .degree) number-of x
 
   abbrev rows : ℕ → ℤ
   rows q = down ints _⊛_ row y (c .args .degree - q) q
@@ -119,7 +120,7 @@ returns c =
     let a = c .before .before .before in
     let e : c .before .loop .q ≡ 0 = omega arith in
     c .before .loop .inv .1 ∙ ap (rows a) e ∙ ap (λ n. down ints _⊛_ (row a) (y a) n 0) (N.sub-zero (a .args .degree))
-    ∙ ap₂ (downward ints _⊛_ (a .args .degree) (number a)) (toZ-ofZ (a .fits .x)) (toZ-ofZ (a .fits .y))
+    ∙ ap₂ (downward ints _⊛_ (a .args .degree) (number-of a)) (toZ-ofZ (a .fits .x)) (toZ-ofZ (a .fits .y))
 
 pub group-at-spec : {M : Type 1} → statement M
 group-at-spec =

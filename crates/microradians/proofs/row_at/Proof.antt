@@ -5,30 +5,31 @@ use Prim.Native.Nat.{ℕ, suc, _+_, _-_, _≤_, _<_}
 use native.Mathlib.Nat as N
 use native.Mathlib.Omega.{arith}
 use borrow.Author.Needs.{needs, sfits-of}
-use lib.IntN.{ℤ, pos, natAbs, _+ℤ_}
-use lib.ListN.{length, getD}
+use lib.IntN.{ℤ, natAbs, _+ℤ_}
+use lib.ListN.{length}
 use mir.Syntax.{w64}
 use mir.Val.{SFits, toZ, ofZ}
 use mir.Facts.{toZ-ofZ}
 use Rattle.whole.proofs.Machine.{natAbs-sfits, op-bits, op-back}
 use Rattle.polynomials.specs.Numbers.{ints}
 use Rattle.polynomials.specs.Order.{place}
+use Rattle.polynomials.specs.Group.{number}
 use Rattle.polynomials.specs.Limits.{highestDegree}
 use Rattle.polynomials.specs.Downward.{down}
 use Rattle.polynomials.proofs.Places.{place-below}
 use Rattle.polynomials.proofs.Downward.{down-start, down-more}
 use Rattle.microradians.specs.Fixed.{_⊛_}
-use Rattle.microradians.specs.Ready.{numbersAt, largestPrinted, most, Near}
+use Rattle.microradians.specs.Ready.{most, Near}
 use Rattle.microradians.proofs.Bounds.{row-size}
 use Rattle.microradians.proofs.row_at.Statement.{statement}
 use Rattle.microradians.proofs.row_at.Tie as tie
 
 abbrev Inv-loop : tie.InvT-loop
-Inv-loop block start degree q x p₀ row₀ p row =
-    (p ≤ degree - q) × (toZ w64 row ≡ down ints _⊛_ (λ i. numbersAt block start i q) (toZ w64 x) (degree - q - p) p)
+Inv-loop group degree q x p₀ row₀ p row =
+    (p ≤ degree - q) × (toZ w64 row ≡ down ints _⊛_ (λ i. number ints group i q) (toZ w64 x) (degree - q - p) p)
 
 abbrev μ-loop : tie.MeasureT-loop
-μ-loop block start degree q x p₀ row₀ p row = p
+μ-loop group degree q x p₀ row₀ p row = p
 
 -- ════ at the start
 module _ (c : tie.Start Inv-loop μ-loop) where
@@ -40,30 +41,25 @@ module _ (c : tie.Start Inv-loop μ-loop) where
   near = rw (toZ-ofZ (c .fits .x)) (c .pre .1 .1)
 
   abbrev l : List ℤ
-  l = c .args .block .now
+  l = c .args .group .now
 
   abbrev last : ℕ
   last = c .args .degree - c .args .q
 
-  abbrev number : ℕ → ℤ
-  number p = numbersAt l (c .args .start) p (c .args .q)
+  abbrev number-of : ℕ → ℤ
+  number-of p = number ints l p (c .args .q)
 
   abbrev row : ℕ → ℤ
-  row p = down ints _⊛_ number x (last - p) p
+  row p = down ints _⊛_ number-of x (last - p) p
 
-  at : (p : ℕ) → p ≤ last
-      → ((p + c .args .q ≤ highestDegree) × (c .args .start + place p (c .args .q) < length l))
-      × (natAbs (getD l (c .args .start + place p (c .args .q)) (pos 0)) ≤ largestPrinted)
-  at p h = (
-    (omega (arith, c .pre .0 .low), omega (arith, c .pre .0 .room, place-below (suc (c .args .degree)) p (c .args .q) (omega arith))),
-    c .pre .0 .small _,
-  )
+  at : (p : ℕ) → p ≤ last → (p + c .args .q ≤ highestDegree) × (place p (c .args .q) < length l)
+  at p h = (omega (arith, c .pre .0 .low), omega (arith, c .pre .0 .room, place-below (suc (c .args .degree)) p (c .args .q) (omega arith)))
 
   small : (p : ℕ) → natAbs (row p) ≤ most
   small p = row-size (c .pre .0) x x near near (c .args .q) (last - p) p (omega arith)
 
-  fits : (p : ℕ) → p < last → SFits w64 (row (p + 1) ⊛ x +ℤ number p)
-  fits p h = subst (SFits w64) (down-more ints _⊛_ number x last p h) (natAbs-sfits _ (omega (arith, small p)))
+  fits : (p : ℕ) → p < last → SFits w64 (row (p + 1) ⊛ x +ℤ number-of p)
+  fits p h = subst (SFits w64) (down-more ints _⊛_ number-of x last p h) (natAbs-sfits _ (omega (arith, small p)))
 
 -- ════ at a turn, which takes the power one below
 module _ (c : tie.In-loop Inv-loop μ-loop) where
@@ -89,7 +85,7 @@ module _ (c : tie.After-number-at2 Inv-loop μ-loop) where
   product-is : toZ w64 (ofZ w64 (c .before .times .result)) ≡ row s (p turn + 1) ⊛ x s
   product-is = toZ-ofZ (sfits-of {z = c .before .times .result} (c .before .times .ok)) ∙ c .before .times .ensures ∙ ap (λ z. z ⊛ x s) (row-is turn)
 
-  number-is : toZ w64 (ofZ w64 (c .number-at2 .result)) ≡ number s (p turn)
+  number-is : toZ w64 (ofZ w64 (c .number-at2 .result)) ≡ number-of s (p turn)
   number-is = toZ-ofZ (sfits-of {z = c .number-at2 .result} (c .number-at2 .ok)) ∙ c .number-at2 .ensures
 
 sub-p : tie.Need-sub-p Inv-loop μ-loop
@@ -130,7 +126,7 @@ returns : tie.Need-returns Inv-loop μ-loop
 returns c =
     let a = c .before .before .before in
     let e : c .before .loop .p ≡ 0 = omega arith in
-    c .before .loop .inv .1 ∙ ap (row a) e ∙ ap₂ (λ n z. down ints _⊛_ (number a) z n 0) (N.sub-zero (last a)) (toZ-ofZ (a .fits .x))
+    c .before .loop .inv .1 ∙ ap (row a) e ∙ ap₂ (λ n z. down ints _⊛_ (number-of a) z n 0) (N.sub-zero (last a)) (toZ-ofZ (a .fits .x))
 
 pub row-at-spec : {M : Type 1} → statement M
 row-at-spec =
