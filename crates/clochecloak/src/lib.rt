@@ -46,8 +46,7 @@ pub extern "C" fn clochecloak_read_microradians(
     ensures number { λ r. ⌜ r ≡ fineNumber (readings (alpha ∷ beta ∷ xi ∷ eta ∷ zeta ∷ [])) (now (out .entry)) ⌝ }
     ensures output { λ r. ⌜ now (out .exit) ≡ fineOutput (readings (alpha ∷ beta ∷ xi ∷ eta ∷ zeta ∷ [])) (now (out .entry)) ⌝ }
 {
-    let state = [alpha, beta, xi, eta, zeta];
-    microradians::read(state, out)
+    microradians::read([alpha, beta, xi, eta, zeta], out)
 }
 
 #[no_mangle]
