@@ -25,5 +25,10 @@ int main(void) {
     printf("m at 135.4 as a float         %.17g\n", answer.m);
     answer = clochecloak_read_floats(client, CLOCHECLOAK_TABLE, 1035.6, 0, 0, 0, 0);
     printf("alpha 1035.6 is given         %" PRIu64 ", with %g handed back\n", answer.number, answer.reading);
+    /* a sensor whose zero is the model's, in microradians: the published table as it stands, in units of 10^-9 */
+    if (clochecloak_read_microradians(100000, 0, 0, 0, 0, model, CLOCHECLOAK_COEFFICIENTS) != 0) return 1;
+    printf("m at 100000 microradians      %" PRId64 "\n", model[4]);
+    if (clochecloak_read_microradians(100400, 0, 0, 0, 0, model, CLOCHECLOAK_COEFFICIENTS) != 0) return 1;
+    printf("m at 100400 microradians      %" PRId64 "\n", model[4]);
     return 0;
 }
