@@ -12,8 +12,9 @@ use Rattle.polynomials.specs.Downward.{down, rowDownward}
 use Rattle.layout.specs.Refusals.{first}
 use Rattle.layout.specs.Reading.{readings}
 use Rattle.cumulus.specs.Model.{C-X}
-use Rattle.microradians.specs.Fixed.{_⊛_, nano, kindAt, partAt}
-use Rattle.microradians.specs.Answer.{limits, answers, fineNumber, fineOutput}
+use Rattle.microradians.specs.Fixed.{_⊛_, nano}
+use Rattle.microradians.specs.Groups.{kindAt, partAt}
+use Rattle.microradians.specs.Answer.{fineLimits, fineAnswers, fineNumber, fineOutput}
 use Rattle.microradians.proofs.Held.{valueAt}
 use Rattle.microradians.proofs.Slack.{products, multiplications}
 
@@ -49,7 +50,7 @@ unfolding down nearestAway below
 hand-group = refl
 
 -- ════ limits: the envelope times 1000, and the cut
-limits-read : limits
+limits-read : fineLimits
     ≡ negℤ (pos 150_000)
     ∷ pos 313_269
     ∷ pos 1_000_000
@@ -76,7 +77,7 @@ states =
     ∷ (pos 1_000_000 ∷ pos 500_000 ∷ pos 200_000 ∷ pos 400_000 ∷ pos 500_000 ∷ [])
     ∷ []
 
-answered : map (λ s. answers (readings s)) states
+answered : map (λ s. fineAnswers (readings s)) states
     ≡ (pos 35_040_000 ∷ pos 17_614_000 ∷ negℤ (pos 849_040_000) ∷ pos 13_956_000 ∷ negℤ (pos 135_070_000) ∷ pos 13_521_000 ∷ [])
     ∷ (negℤ (pos 52_528_358) ∷ pos 1_049_476 ∷ negℤ (pos 1_059_595_465) ∷ pos 3_169_128 ∷ negℤ (pos 437_826_762) ∷ pos 4_403_466 ∷ [])
     ∷ (negℤ (pos 52_464_656) ∷ negℤ (pos 1_843_189) ∷ negℤ (pos 1_059_569_731) ∷ pos 3_222_793 ∷ negℤ (pos 438_115_341) ∷ pos 4_673_898 ∷ [])

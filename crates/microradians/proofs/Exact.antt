@@ -40,8 +40,8 @@ use Rattle.cumulus.specs.Notation.{Polynomial}
 use Rattle.cumulus.specs.Model.{Coefficient, coefficientAt, microradians, scaleIn, pre, post, fineValue}
 use Rattle.cumulus.specs.Stored.{degree, printedAt, group, byKind, parts, eachBelongs}
 use Rattle.cumulus.proofs.Model.{equation, all-hold, held-total, own-variables}
-use Rattle.microradians.specs.Fixed.{perPrinted, _⊛_, rounded}
-use Rattle.microradians.specs.Answer.{limits, together, answerIn, fineNumber, fineOutput}
+use Rattle.microradians.specs.Fixed.{perPrinted, _⊛_, inFixedPoint}
+use Rattle.microradians.specs.Answer.{fineLimits, together, answerIn, fineNumber, fineOutput}
 use Rattle.microradians.proofs.Answers.{number-given, within-reach, reach-near}
 use Rattle.microradians.proofs.Off.{M, Off, off-+, off-nil}
 use Rattle.microradians.proofs.Slack.{silent, slack, groupSlack, exactly, downward-off, products, multiplications, counted}
@@ -70,7 +70,7 @@ module _ (k : Kind) (f : Polynomial) (x : ℕ → ℤ) (ρ : ℕ → ℕ) (d : k
       downward-ext ints _*ℤ_ (k .degree) _ (number ints numbers) (x (k .u)) (x (k .v)) number-is
       ∙ downward-value whole (k .degree) numbers (N.le-of-eq (length-listed (size (k .degree)) _)) (x (k .u)) (x (k .v))
 
-  pub group-off : Off (M ^ highestDegree) (slackOf ρ k f) (rounded x k f) (valueOf (group (scaleIn microradians) k f) x)
+  pub group-off : Off (M ^ highestDegree) (slackOf ρ k f) (inFixedPoint x k f) (valueOf (group (scaleIn microradians) k f) x)
   group-off = rw exact-is at (downward-off (printedOf k f) (k .degree) highestDegree (x (k .u)) (x (k .v)) (ρ (k .u)) (ρ (k .v)) hu hv d)
 
 -- ════ the groups that count in a piece
@@ -85,29 +85,29 @@ slacks ρ p (k ∷ ks) (f ∷ fs) = cond (counts p k) (slackOf ρ k f) 0 + slack
 
 module _ (n : ℕ) (x : ℕ → ℤ) (ρ : ℕ → ℕ) (h : (i : ℕ) → i < n → natAbs (x i) ≤ ρ i) (p : Piece) where
   kinds-off : (ks : List Kind) (fs : List Polynomial) → InVariables n ks → Low ks
-      → Off (M ^ highestDegree) (slacks ρ p ks fs) (together p ks (byKind (rounded x) ks fs)) (total (chosen p ks (byKind (group (scaleIn microradians)) ks fs)) x)
+      → Off (M ^ highestDegree) (slacks ρ p ks fs) (together p ks (byKind (inFixedPoint x) ks fs)) (total (chosen p ks (byKind (group (scaleIn microradians)) ks fs)) x)
   unfolding chosen total
   kinds-off [] fs v l = off-nil _ refl refl
   kinds-off (k ∷ ks) [] v l = off-nil _ refl refl
   kinds-off (k ∷ ks) (f ∷ fs) v l = next (counts p k) (group-off k f x ρ (l .0) (h _ (v .0)) (h _ (v .1))) (kinds-off ks fs (v .2) (l .1))
     where
-      next : (b : Bool) → Off (M ^ highestDegree) (slackOf ρ k f) (rounded x k f) (valueOf (group (scaleIn microradians) k f) x)
-          → Off (M ^ highestDegree) (slacks ρ p ks fs) (together p ks (byKind (rounded x) ks fs)) (total (chosen p ks (byKind (group (scaleIn microradians)) ks fs)) x)
-          → Off (M ^ highestDegree) (cond b (slackOf ρ k f) 0 + slacks ρ p ks fs) (cond b (rounded x k f) (pos 0) +ℤ together p ks (byKind (rounded x) ks fs)) (total (keep b (group (scaleIn microradians) k f) (chosen p ks (byKind (group (scaleIn microradians)) ks fs))) x)
+      next : (b : Bool) → Off (M ^ highestDegree) (slackOf ρ k f) (inFixedPoint x k f) (valueOf (group (scaleIn microradians) k f) x)
+          → Off (M ^ highestDegree) (slacks ρ p ks fs) (together p ks (byKind (inFixedPoint x) ks fs)) (total (chosen p ks (byKind (group (scaleIn microradians)) ks fs)) x)
+          → Off (M ^ highestDegree) (cond b (slackOf ρ k f) 0 + slacks ρ p ks fs) (cond b (inFixedPoint x k f) (pos 0) +ℤ together p ks (byKind (inFixedPoint x) ks fs)) (total (keep b (group (scaleIn microradians) k f) (chosen p ks (byKind (group (scaleIn microradians)) ks fs))) x)
       next true o r = off-+ o r
-      next false o r = rw (+ℤ-idl (together p ks (byKind (rounded x) ks fs)), N.zero-add (slacks ρ p ks fs)) r
+      next false o r = rw (+ℤ-idl (together p ks (byKind (inFixedPoint x) ks fs)), N.zero-add (slacks ρ p ks fs)) r
 
 -- ════ a coefficient
 abbrev pub slackIn : Piece → Coefficient → ℕ
-slackIn p C = slacks (reach limits p) p (cumulus .kinds) (parts C)
+slackIn p C = slacks (reach fineLimits p) p (cumulus .kinds) (parts C)
 
 low-degrees : Low (cumulus .kinds)
 low-degrees = (omega arith, (omega arith, (omega arith, (omega arith, tt))))
 
-pub answer-off : (x : ℕ → ℤ) (p : Piece) (C : Coefficient) → eachBelongs C ≡ all-hold → ((i : ℕ) → i < cumulus .variables → natAbs (x i) ≤ reach limits p i)
+pub answer-off : (x : ℕ → ℤ) (p : Piece) (C : Coefficient) → eachBelongs C ≡ all-hold → ((i : ℕ) → i < cumulus .variables → natAbs (x i) ≤ reach fineLimits p i)
     → Off (M ^ highestDegree) (slackIn p C) (answerIn p C x) (equation microradians p C x)
 answer-off x p C b h =
-    rw (held-total microradians x C b p) at (kinds-off (cumulus .variables) x (reach limits p) h p (cumulus .kinds) (parts C) cumulus-variables low-degrees)
+    rw (held-total microradians x C b p) at (kinds-off (cumulus .variables) x (reach fineLimits p) h p (cumulus .kinds) (parts C) cumulus-variables low-degrees)
 
 -- ════ by the reaches
 all-followed : every 2 (λ n. every (cumulus .blocks) (λ b. leb (slackIn (piece n) (coefficientAt b)) (2 * (691 * 10 ^ 22)))) ≡ true
@@ -143,7 +143,7 @@ products-of high = refl
 
 pub slack-counted : (p : Piece) (C : Coefficient) → slackIn p C ≤ 37 * M ^ highestDegree
 slack-counted p C =
-    N.le-trans (slacks-counted (cumulus .variables) (reach limits p) (reach-near p) p (cumulus .kinds) (parts C) cumulus-variables low-degrees)
+    N.le-trans (slacks-counted (cumulus .variables) (reach fineLimits p) (reach-near p) p (cumulus .kinds) (parts C) cumulus-variables low-degrees)
     (N.le-of-eq (ap (λ n. n * M ^ highestDegree) (products-of p)))
 
 -- ════ the answers of an accepted read
@@ -165,7 +165,7 @@ value-in C x false = refl
 
 module _ (x : ℕ → ℤ) (out : List ℤ) (e : fineNumber x out ≡ done) (b : ℕ) (h : b < cumulus .blocks) where
   abbrev p : Piece
-  p = pieceAt limits x
+  p = pieceAt fineLimits x
 
   abbrev C : Coefficient
   C = coefficientAt b
@@ -184,7 +184,7 @@ module _ (x : ℕ → ℤ) (out : List ℤ) (e : fineNumber x out ≡ done) (b :
       (N.le-of-eq
       (ap (λ n. 2 * n)
       (sym (natAbs-* (pos perPrinted) (getD (fineOutput x out) b (pos 0) *ℤ pos (10 ^ 20) -ℤ fineValue C x)) ∙ ap natAbs (sym (split-last (getD (fineOutput x out) b (pos 0)) (fineValue C x)))
-      ∙ ap₂ (λ v w. natAbs (pos (M ^ highestDegree) *ℤ v -ℤ pos perPrinted *ℤ w)) answer-at (sym (value-in C x (leZ (x 0) (cut limits)))))))
+      ∙ ap₂ (λ v w. natAbs (pos (M ^ highestDegree) *ℤ v -ℤ pos perPrinted *ℤ w)) answer-at (sym (value-in C x (leZ (x 0) (cut fineLimits)))))))
       (answer-off x p C (all-belong b h) (within-reach x out e) .off)
 
   -- 6.91, 18.5 and 100 units of 10⁻⁹

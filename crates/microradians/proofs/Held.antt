@@ -33,7 +33,8 @@ use Rattle.layout.specs.Limits.{every}
 use Rattle.layout.proofs.Tests.{every-all}
 use Rattle.cumulus.specs.Model.{Coefficient, coefficientAt}
 use Rattle.cumulus.specs.Stored.{printedAt}
-use Rattle.microradians.specs.Fixed.{perPrinted, _⊛_, nano, rounded, groupCount, kindAt, partAt, fineNumbers, fineGroup}
+use Rattle.microradians.specs.Fixed.{perPrinted, _⊛_, nano, inFixedPoint}
+use Rattle.microradians.specs.Groups.{groupCount, kindAt, partAt, fineNumbers, fineGroup}
 use Rattle.microradians.specs.Answer.{answerIn}
 use Rattle.microradians.specs.Ready.{largest, most, Placed, Near, AllNear}
 use Rattle.microradians.proofs.Bounds.{group-size}
@@ -67,7 +68,7 @@ module _ (b i : ℕ) (h : b < cumulus .blocks) (l : i < groupCount) where
 -- ════ the values
 module _ (C : Coefficient) (x : ℕ → ℤ) where
   abbrev pub valueAt : ℕ → ℤ
-  valueAt i = rounded x (kindAt i) (partAt C i)
+  valueAt i = inFixedPoint x (kindAt i) (partAt C i)
 
   pub answer-is : (n : ℕ) → n < 2 → valueAt n +ℤ (valueAt 2 +ℤ valueAt 3) ≡ answerIn (piece n) C x
   answer-is zero h = sym (ap (λ z. valueAt 0 +ℤ z) (+ℤ-idl _ ∙ ap (λ z. valueAt 2 +ℤ z) (+ℤ-idr (valueAt 3))))

@@ -25,7 +25,7 @@ use Rattle.cumulus.specs.Published.{published}
 use Rattle.cumulus.proofs.Envelope.{read-number, read-inside}
 use Rattle.cumulus.proofs.Model.{read-model}
 use Rattle.cumulus.proofs.Units.{fine-value}
-use Rattle.microradians.specs.Answer.{limits, fineNumber, fineOutput}
+use Rattle.microradians.specs.Answer.{fineLimits, fineNumber, fineOutput}
 use Rattle.microradians.proofs.Answers.{room-number, accepted}
 use Rattle.microradians.proofs.Exact.{near-followed}
 
@@ -39,11 +39,11 @@ le-times a b = ring2 a b (λ ρ e f. simp (quote, quote-pos ρ, e, f) (omega zar
 same-test : (a b : ℤ) → leZ (pos 1000 *ℤ a) (pos 1000 *ℤ b) ≡ leZ a b
 same-test a b = true-iff _ _ (λ e. fact-leZ (times-le a b (leZ-fact e))) (λ e. fact-leZ (le-times a b (leZ-fact e)))
 
-lowest-all : listed (cumulus .variables) (lowest limits) ≡ listed (cumulus .variables) (λ i. pos 1000 *ℤ lowest published i)
+lowest-all : listed (cumulus .variables) (lowest fineLimits) ≡ listed (cumulus .variables) (λ i. pos 1000 *ℤ lowest published i)
 unfolding listed published
 lowest-all = refl
 
-highest-all : listed (cumulus .variables) (highest limits) ≡ listed (cumulus .variables) (λ i. pos 1000 *ℤ highest published i)
+highest-all : listed (cumulus .variables) (highest fineLimits) ≡ listed (cumulus .variables) (λ i. pos 1000 *ℤ highest published i)
 unfolding listed published
 highest-all = refl
 
@@ -51,17 +51,17 @@ one-of : (f g : ℕ → ℤ) → listed (cumulus .variables) f ≡ listed (cumul
 one-of f g e i h =
     sym (getD-listed (cumulus .variables) f i (pos 0) h) ∙ ap (λ r. getD r i (pos 0)) e ∙ getD-listed (cumulus .variables) g i (pos 0) h
 
-pub lowest-whole : (i : ℕ) → i < cumulus .variables → lowest limits i ≡ pos 1000 *ℤ lowest published i
-lowest-whole = one-of (lowest limits) (λ i. pos 1000 *ℤ lowest published i) lowest-all
+pub lowest-whole : (i : ℕ) → i < cumulus .variables → lowest fineLimits i ≡ pos 1000 *ℤ lowest published i
+lowest-whole = one-of (lowest fineLimits) (λ i. pos 1000 *ℤ lowest published i) lowest-all
 
-pub highest-whole : (i : ℕ) → i < cumulus .variables → highest limits i ≡ pos 1000 *ℤ highest published i
-highest-whole = one-of (highest limits) (λ i. pos 1000 *ℤ highest published i) highest-all
+pub highest-whole : (i : ℕ) → i < cumulus .variables → highest fineLimits i ≡ pos 1000 *ℤ highest published i
+highest-whole = one-of (highest fineLimits) (λ i. pos 1000 *ℤ highest published i) highest-all
 
 module _ (x : ℕ → ℤ) where
   abbrev pub thousandfold : ℕ → ℤ
   thousandfold i = pos 1000 *ℤ x i
 
-  inside-whole : (i : ℕ) → i < cumulus .variables → inside limits thousandfold i ≡ inside published x i
+  inside-whole : (i : ℕ) → i < cumulus .variables → inside fineLimits thousandfold i ≡ inside published x i
   inside-whole i h =
       ap₂ _&&_
       (ap (λ z. leZ z (thousandfold i)) (lowest-whole i h) ∙ same-test (lowest published i) (x i))

@@ -8,11 +8,11 @@ use Rattle.polynomials.specs.Limits.{highestDegree}
 use Rattle.layout.specs.Shape.{cumulus}
 use Rattle.cumulus.specs.Model.{microradians}
 
--- no printed number is larger than 200
+-- no number is larger: none that is printed passes 200
 abbrev pub largest : ℕ
 largest = 200_000_000_000
 
--- nor does a group of at most 5 rows of at most 5 numbers come to more: its products fit 64 bits
+-- and a group, of at most 5 rows of at most 5 numbers, comes to no more than this, whose product with a radian fits 64 bits
 abbrev pub most : ℕ
 most = 5 * (5 * largest)
 
@@ -22,9 +22,10 @@ pub record Placed (l : List ℤ) (degree : ℕ) : Type 0 where
   pub room : size degree ≤ length l
   pub small : (k : ℕ) → natAbs (getD l k (pos 0)) ≤ largest
 
+-- at most a radian
 abbrev pub Near : ℤ → Type 0
 Near r = natAbs r ≤ microradians .radian
 
--- no reading is more than a radian
+-- each reading is
 abbrev pub AllNear : (ℕ → ℤ) → Type 0
 AllNear x = (i : ℕ) → i < cumulus .variables → Near (x i)

@@ -5,7 +5,7 @@ use layout::SIDE;
 ghost use mathlib.Core.Path.{_≡_};
 ghost use Prim.Native.Nat.{_*_, _<_};
 ghost use Rattle.layout.specs.Shape.{cumulus};
-ghost use Rattle.microradians.specs.Fixed.{groupCount, fineGroup};
+ghost use Rattle.microradians.specs.Groups.{groupCount, fineGroup};
 
 // Groups in a block: low and high in alpha and eta, then in beta and xi and in beta and zeta.
 pub const GROUPS: usize = 4;

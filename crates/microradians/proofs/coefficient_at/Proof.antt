@@ -15,7 +15,8 @@ use Rattle.polynomials.specs.Downward.{downward}
 use Rattle.layout.specs.Shape.{cumulus}
 use Rattle.layout.specs.Reading.{readings}
 use Rattle.cumulus.specs.Model.{coefficientAt}
-use Rattle.microradians.specs.Fixed.{_⊛_, groupCount, fineGroup}
+use Rattle.microradians.specs.Fixed.{_⊛_}
+use Rattle.microradians.specs.Groups.{groupCount, fineGroup}
 use Rattle.microradians.specs.Ready.{Placed, Near}
 use Rattle.microradians.proofs.Held.{valueAt, Found, pitch-found, xi-found, zeta-found, answer-is, sides-fit, all-fit}
 use Rattle.microradians.proofs.coefficient_at.Statement.{statement}

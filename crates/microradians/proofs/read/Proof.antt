@@ -15,7 +15,7 @@ use Rattle.layout.specs.Limits.{cut}
 use Rattle.layout.specs.Blocks.{Piece, low, high}
 use Rattle.layout.specs.Refusals.{done}
 use Rattle.layout.specs.Reading.{readings, pieceAt}
-use Rattle.microradians.specs.Answer.{limits, fineNumber}
+use Rattle.microradians.specs.Answer.{fineLimits, fineNumber}
 use Rattle.microradians.specs.Ready.{AllNear}
 use Rattle.microradians.proofs.Answers.{refused, wrong-room, room-number, all-near, piece-given}
 use Rattle.microradians.proofs.read.Statement.{statement}
@@ -41,9 +41,9 @@ module _ (c : tie.After-in-low-piece) where
   abbrev start : tie.Start
   start = c .before .before .before .before .before
 
-  piece-is : (b : Bool) → c .in-low-piece .result ≡ b → cond b low high ≡ pieceAt limits (x start)
+  piece-is : (b : Bool) → c .in-low-piece .result ≡ b → cond b low high ≡ pieceAt fineLimits (x start)
   piece-is b e =
-      ap (λ b. cond b low high) (sym e ∙ c .in-low-piece .ensures ∙ ap (λ z. leZ z (cut limits)) (toZ-ofZ (sfits-of {z = x start 0} (c .before .in-low-piece-arg .given))))
+      ap (λ b. cond b low high) (sym e ∙ c .in-low-piece .ensures ∙ ap (λ z. leZ z (cut fineLimits)) (toZ-ofZ (sfits-of {z = x start 0} (c .before .in-low-piece-arg .given))))
 
 returns : tie.Need-returns
 returns c = wrong-room (x (c .before)) (out (c .before)) (c .if1 .taken)

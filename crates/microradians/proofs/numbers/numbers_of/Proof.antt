@@ -4,7 +4,7 @@ use Prim.Native.Nat.{ℕ, zero, suc, _≤_}
 use native.Mathlib.Omega.{arith}
 use Rattle.polynomials.specs.Order.{below}
 use Rattle.polynomials.specs.Sum.{listed}
-use Rattle.microradians.specs.Fixed.{fineGroup}
+use Rattle.microradians.specs.Groups.{fineGroup}
 use Rattle.microradians.proofs.numbers.numbers_of.Statement.{statement}
 use Rattle.microradians.proofs.numbers.numbers_of.Tie as tie
 
