@@ -100,10 +100,10 @@ unfolding every
 all-quartic = refl
 
 -- the pieces end at the same reading
-below-cut : (z : ℤ) → (pos 1000 *ℤ z) ≤ℤ pos 313_269 → z ≤ℤ pos 313
+below-cut : (z : ℤ) → (pos 1000 *ℤ z) ≤ℤ pos (microradians .cut) → z ≤ℤ pos (milliradians .cut)
 below-cut z = ring1 z (λ ρ e. simp (quote, quote-pos ρ, e) (omega zarith))
 
-above-cut : (z : ℤ) → z ≤ℤ pos 313 → (pos 1000 *ℤ z) ≤ℤ pos 313_269
+above-cut : (z : ℤ) → z ≤ℤ pos (milliradians .cut) → (pos 1000 *ℤ z) ≤ℤ pos (microradians .cut)
 above-cut z = ring1 z (λ ρ e. simp (quote, quote-pos ρ, e) (omega zarith))
 
 same-piece : (z : ℤ) → leZ (pos 1000 *ℤ z) (pos (microradians .cut)) ≡ leZ z (pos (milliradians .cut))
