@@ -48,17 +48,17 @@ module _ (x : ℕ → ℤ) (out : List ℤ) where
   pub refused-fine-read-writes-nothing : 0 < fineNumber x out → fineOutput x out ≡ out
   refused-fine-read-writes-nothing h = sym (refused x out (fineNumber x out) refl (λ e. omega arith) .1)
 
-  -- Each answer lies within 10⁻⁷ of the exact sum of the printed polynomials at the readings,
+  -- No answer is farther than 10⁻⁷ from what the printed polynomials come to at its readings,
   pub fine-answers-within-asked : fineNumber x out ≡ done → (b : ℕ) → b < cumulus .blocks
       → natAbs (getD (fineOutput x out) b (pos 0) *ℤ pos (10 ^ 20) -ℤ fineValue (coefficientAt b) x) ≤ 10 ^ 22
   fine-answers-within-asked = near-asked x out
 
-  -- within a half of a unit for each of 37 products, 18.5 × 10⁻⁹,
+  -- nor than half a unit for each of 37 products, 18.5 × 10⁻⁹,
   pub fine-answers-within-halves : fineNumber x out ≡ done → (b : ℕ) → b < cumulus .blocks
       → 2 * natAbs (getD (fineOutput x out) b (pos 0) *ℤ pos (10 ^ 20) -ℤ fineValue (coefficientAt b) x) ≤ 37 * 10 ^ 20
   fine-answers-within-halves = near-counted x out
 
-  -- and, as no reading reaches farther than its limits, within 6.91 × 10⁻⁹.
+  -- nor, since a reading reaches no farther than its limits, than 6.91 × 10⁻⁹.
   pub fine-answers-within-reaches : fineNumber x out ≡ done → (b : ℕ) → b < cumulus .blocks
       → natAbs (getD (fineOutput x out) b (pos 0) *ℤ pos (10 ^ 20) -ℤ fineValue (coefficientAt b) x) ≤ 691 * 10 ^ 18
   fine-answers-within-reaches = near-followed x out
