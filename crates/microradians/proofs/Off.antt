@@ -5,7 +5,6 @@
 --   off-times         a product with a reading of at most R: the distance grows R-fold where the unit grows 10⁶-fold, and one half of that unit comes with
 --                     the rounding
 --   off-nil           0 is not off; nil-times: nor is 0 times a reading
---   off-le            by a larger bound
 use mathlib.Core.Path.{_≡_, refl, sym, _∙_, ap, ap₂}
 use Prim.Native.Nat.{ℕ, _+_, _*_, _≤_}
 use native.Mathlib.Nat as N
@@ -69,6 +68,3 @@ off-nil m {v} {e} d f = record { off = N.le-of-eq (ap₂ (λ v e. 2 * natAbs (po
   where
     nothing : 2 * natAbs (pos m *ℤ pos 0 -ℤ pos perPrinted *ℤ pos 0) ≡ 0
     nothing = ap (λ z. 2 * natAbs (z -ℤ pos perPrinted *ℤ pos 0)) (*ℤ-zero (pos m))
-
-pub off-le : {m n k : ℕ} {v e : ℤ} → Off m n v e → n ≤ k → Off m k v e
-off-le g h = record { off = N.le-trans (g .off) h }
