@@ -24,7 +24,6 @@ pub record Valued (t : List ℤ) (b n : ℕ) (x : List ℤ) : Type 0 where
   pub whole : length t ≡ tableLength cumulus
   pub block : b < cumulus .blocks
   pub half : n < 2
-  pub near : (i : ℕ) → i < cumulus .variables → natAbs (readings x i) ≤ farthest
   pub light : totalWeight (coefficient cumulus t b (piece n)) (λ i. max 1 (natAbs (readings x i))) ≤ cap
 
 abbrev pub grouped : ℕ → ℕ → List ℤ → Group

@@ -25,7 +25,7 @@ use Rattle.polynomials.specs.Group.{number}
 use Rattle.polynomials.specs.Limits.{highestDegree}
 use Rattle.polynomials.specs.Downward.{downward}
 use Rattle.polynomials.proofs.Listed.{length-listed, getD-listed}
-use Rattle.polynomials.proofs.Places.{below-mono, place-below}
+use Rattle.polynomials.proofs.Places.{place-below}
 use Rattle.polynomials.proofs.Downward.{downward-ext}
 use Rattle.layout.specs.Shape.{cumulus}
 use Rattle.layout.specs.Blocks.{piece}
@@ -85,7 +85,7 @@ module _ (b i : ℕ) (h : b < cumulus .blocks) (l : i < groupCount) (d : kindAt 
   degree = kindAt i .degree
 
   stands : Placed (numbersOf b i) degree
-  stands = record { low = d; room = omega (arith, long b i h l, below-mono (suc degree) (suc highestDegree) (omega arith)); small = small b i h l }
+  stands = record { low = d; small = small b i h l }
 
   number-is : (p q : ℕ) → p + q ≤ degree → number ints (numbersOf b i) p q ≡ nano (kindAt i) (partAt (coefficientAt b) i) p q
   unfolding number

@@ -2,8 +2,7 @@
 use mathlib.Core.List.{List}
 use Prim.Native.Nat.{ℕ, _*_, _≤_, _<_}
 use lib.IntN.{ℤ, pos, natAbs}
-use lib.ListN.{length, getD}
-use Rattle.polynomials.specs.Order.{size}
+use lib.ListN.{getD}
 use Rattle.polynomials.specs.Limits.{highestDegree}
 use Rattle.layout.specs.Shape.{cumulus}
 use Rattle.cumulus.specs.Model.{microradians}
@@ -16,10 +15,9 @@ largest = 200_000_000_000
 abbrev pub most : ℕ
 most = 5 * (5 * largest)
 
--- the numbers of a group of that degree
+-- the numbers of a group of that degree, small enough
 pub record Placed (l : List ℤ) (degree : ℕ) : Type 0 where
   pub low : degree ≤ highestDegree
-  pub room : size degree ≤ length l
   pub small : (k : ℕ) → natAbs (getD l k (pos 0)) ≤ largest
 
 -- at most a radian

@@ -11,15 +11,14 @@ use layout::refusals::WRONG_OUTPUT;
 use limits::Limits;
 use numbers::GROUPS;
 use numbers::numbers_of;
+use polynomials::number_at;
 ghost use mathlib.Core.Path.{_≡_};
-ghost use Prim.Native.Nat.{_+_, _-_, _<_, _≤_};
+ghost use Prim.Native.Nat.{_<_, _≤_};
 ghost use lib.IntN.{natAbs};
 ghost use lib.ListN.{length};
 ghost use Rattle.polynomials.specs.Numbers.{ints};
-ghost use Rattle.polynomials.specs.Order.{place};
 ghost use Rattle.polynomials.specs.Sum.{listed};
 ghost use Rattle.polynomials.specs.Group.{number};
-ghost use Rattle.polynomials.specs.Limits.{highestDegree};
 ghost use Rattle.polynomials.specs.Downward.{rowDownward, downward};
 ghost use Rattle.layout.specs.Shape.{cumulus};
 ghost use Rattle.layout.specs.Blocks.{piece as pieceOf};
@@ -66,16 +65,6 @@ fn times(a: i64, r: i64) -> i64
 {
     let product = a * r;
     whole::nearest_away(product, RADIAN)
-}
-
-// The number before the powers p and q in a group.
-fn number_at(group: &[i64], p: usize, q: usize) -> i64
-    requires { ⌜ (p + q ≤ highestDegree) × (place p q < length (now group)) ⌝ }
-    ensures { λ r. ⌜ r ≡ number ints (now (group .entry)) p q ⌝ }
-{
-    let degree = p + q;
-    let at = degree * (degree + 1) / 2 + q;
-    group[at]
 }
 
 // The numbers beside the power q of the second variable, from the highest power of the first down.

@@ -1,8 +1,10 @@
 -- Sums taken from the highest power down.
---   down-start, down-more   the first number, and one more, as a loop takes them
+--   down-start, down-more, down-all   the first number, one more, and all, as a loop takes them
 --   down-ext, downward-ext  by the numbers that count
 --   down-value              with the exact product: the polynomial's value
---   downward-value          the same for a group, whose numbers past its end are 0
+--   row-past                a group's rows above its degree are 0
+--   rows-value              with the exact product: a group's rows, however many of those that are 0 are taken, come to its value
+--   downward-value          so do those up to its degree
 use mathlib.Core.Path.{_≡_, refl, sym, _∙_, ap, ap₂}
 use mathlib.Core.List.{List}
 use Prim.Native.Nat.{ℕ, zero, suc, _+_, _-_, _≤_, _<_}
@@ -23,6 +25,9 @@ use Rattle.polynomials.proofs.Moves.{number-short, evaluated-at}
 -- ════ with any multiplication
 module _ (S : Numbers) (times : S .N → S .N → S .N) where
   module _ (g : ℕ → S .N) (x : S .N) where
+    pub down-all : (n : ℕ) → down S times g x (n - 0) 0 ≡ down S times g x n 0
+    down-all n = ap (λ k. down S times g x k 0) (N.sub-zero n)
+
     pub down-start : (n : ℕ) → down S times g x (n - n) n ≡ g n
     unfolding down
     down-start n = let e : n - n ≡ 0 = omega arith in rw e
@@ -81,16 +86,25 @@ module _ (S : Semiring) where
     abbrev whole-row : ℕ → A
     whole-row q = value₁ S (length l) (λ p. num p q) x
 
-    row-is : (q : ℕ) → q ≤ d → rowDownward (S .numbers) _⊗_ d num x q ≡ whole-row q
-    row-is q h =
+    row-is : (q : ℕ) → rowDownward (S .numbers) _⊗_ d num x q ≡ whole-row q
+    row-is q =
         down-value (λ p. num p q) x (d - q) 0 ∙ value₁-ext S (suc (d - q)) _ (λ p. num p q) x (λ p b. ap (λ i. num i q) (N.zero-add p))
         ∙ sym (shrink (suc (d - q)) (length l + suc d) (λ p. num p q) x (omega arith) (λ p b. number-short S l p q (omega (arith, place-past (suc d) p q (omega arith)))))
         ∙ shrink (length l) (length l + suc d) (λ p. num p q) x (omega arith) (λ p b. number-short S l p q (omega (arith, degree-place p q)))
 
-    pub downward-value : downward (S .numbers) _⊗_ d num x y ≡ evaluated (S .numbers) l x y
-    downward-value =
-        down-value (rowDownward (S .numbers) _⊗_ d num x) y d 0
-        ∙ value₁-ext S (suc d) _ whole-row y (λ q b. ap (rowDownward (S .numbers) _⊗_ d num x) (N.zero-add q) ∙ row-is q (omega arith))
-        ∙ sym (shrink (suc d) (length l + suc d) whole-row y (omega arith) (λ q b. nothing (length l) _ x (λ p. number-short S l p q (omega (arith, place-past (suc d) p q (omega arith))))))
-        ∙ shrink (length l) (length l + suc d) whole-row y (omega arith) (λ q b. nothing (length l) _ x (λ p. number-short S l p q (omega (arith, degree-place p q))))
+    whole-row-past : (q : ℕ) → d < q → whole-row q ≡ of 0
+    whole-row-past q h = nothing (length l) _ x (λ p. number-short S l p q (omega (arith, place-past (suc d) p q (omega arith))))
+
+    pub row-past : (q : ℕ) → d < q → rowDownward (S .numbers) _⊗_ d num x q ≡ of 0
+    row-past q h = row-is q ∙ whole-row-past q h
+
+    pub rows-value : (e : ℕ) → d ≤ e → down (S .numbers) _⊗_ (rowDownward (S .numbers) _⊗_ d num x) y e 0 ≡ evaluated (S .numbers) l x y
+    rows-value e h =
+        down-value (rowDownward (S .numbers) _⊗_ d num x) y e 0
+        ∙ value₁-ext S (suc e) _ whole-row y (λ q b. ap (rowDownward (S .numbers) _⊗_ d num x) (N.zero-add q) ∙ row-is q)
+        ∙ sym (shrink (suc e) (length l + suc e) whole-row y (omega arith) (λ q b. whole-row-past q (omega arith)))
+        ∙ shrink (length l) (length l + suc e) whole-row y (omega arith) (λ q b. nothing (length l) _ x (λ p. number-short S l p q (omega (arith, degree-place p q))))
         ∙ sym (evaluated-at S l x y)
+
+    pub downward-value : downward (S .numbers) _⊗_ d num x y ≡ evaluated (S .numbers) l x y
+    downward-value = rows-value d (N.le-refl d)

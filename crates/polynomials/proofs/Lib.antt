@@ -10,6 +10,7 @@
 --   Bounds      laws 5 and 6: what a weight bounds
 --   Together    law 7: any number of groups
 --   Downward    sums from the highest power down
+--   DownwardBounds   what such a sum stays within
 --   Cap, PowerRows, Spots   what the code's loops use: a sum against the cap, rows of powers, the places of one variable's powers
 --   controls    computed facts beside the definitions
 pub mod Semiring
@@ -23,6 +24,7 @@ pub mod Unique
 pub mod Bounds
 pub mod Together
 pub mod Downward
+pub mod DownwardBounds
 pub mod Cap
 pub mod PowerRows
 pub mod Spots

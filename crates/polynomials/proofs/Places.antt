@@ -2,6 +2,7 @@
 --   place-powers, powers-place   the place of what stands at k is k; at the place of uᵖvᵠ stands uᵖvᵠ
 --   place-rises                  a larger power of u, or of v, stands later
 --   place-first, place-second    how much later, for one power more
+--   below-is, below-highest      how many stand before a degree, as the code works it out; before all degrees past the highest
 --   degree-place                 a place is at least the total degree that stands there
 --   below-mono                   more degrees have more numbers
 --   degree-powers                below `below n` stand total degrees below n
@@ -9,17 +10,32 @@
 --   next-degree, next-same       the step from one place to the next, as the code takes it
 --   previous-degree, previous-same   and the step back
 use mathlib.Core.Path.{_≡_, refl, sym, _∙_, ap, ap₂}
-use Prim.Native.Nat.{ℕ, zero, suc, _+_, _-_, _≤_, _<_}
+use Prim.Native.Nat.{ℕ, zero, suc, _+_, _*_, _-_, _/_, _≤_, _<_}
 use native.Mathlib.Nat as N
 use native.Mathlib.Omega.{arith}
 use native.Mathlib.Decide.{decLt}
 use native.Mathlib.Numerals.{add-one}
-use Rattle.polynomials.specs.Order.{next, powers, below, place}
+use Rattle.polynomials.specs.Order.{next, powers, below, size, place}
+use Rattle.polynomials.specs.Limits.{highestDegree}
 use Rattle.polynomials.specs.declared.Powers.{Powers}
 
 below-suc : (n : ℕ) → below (suc n) ≡ below n + suc n
 unfolding below
 below-suc n = refl
+
+-- for the degrees that the code serves
+pub below-is : (n : ℕ) → n ≤ highestDegree → n * (n + 1) / 2 ≡ below n
+unfolding below
+below-is zero h = refl
+below-is (suc zero) h = refl
+below-is (suc (suc zero)) h = refl
+below-is (suc (suc (suc zero))) h = refl
+below-is (suc (suc (suc (suc zero)))) h = refl
+below-is (suc (suc (suc (suc (suc n))))) h = absurd (omega arith)
+
+pub below-highest : size highestDegree ≡ 15
+unfolding below
+below-highest = refl
 
 pub below-grows : (n j : ℕ) → below n + j ≤ below (n + j)
 below-grows n zero = omega (arith, ap below (N.add-zero n))

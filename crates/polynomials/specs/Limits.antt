@@ -13,7 +13,7 @@ cap = 9_000_000_000_000_000_000
 abbrev pub farthest : ℕ
 farthest = 6000
 
--- the highest total degree that the binomial numbers of the code serve
+-- the highest total degree that the code serves
 abbrev pub highestDegree : ℕ
 highestDegree = 4
 

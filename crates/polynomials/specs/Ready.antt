@@ -11,8 +11,6 @@ use Rattle.polynomials.specs.declared.Variable.{Variable}
 -- to read a group at x and y
 pub record Readable (l : List ℤ) (x y : ℤ) : Type 0 where
   pub few : length l ≤ size highestDegree
-  pub near-x : natAbs x ≤ farthest
-  pub near-y : natAbs y ≤ farthest
   pub light : weight l (max 1 (natAbs x)) (max 1 (natAbs y)) ≤ cap
 
 -- to move it by s: its weight at reaches of 1, the moved variable's longer by |s|

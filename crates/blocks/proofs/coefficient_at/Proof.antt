@@ -57,18 +57,18 @@ module _ (t : List ℤ) (b n : ℕ) (state : List ℤ) (ready : Valued t b n sta
   unfolding kindsLength below
   long = omega (arith, ready .whole, ready .block)
 
-  readable : (i j a m : ℕ) → i < cumulus .variables → j < cumulus .variables → m ≤ sideSize → weight (take m (drop a t)) (r i) (r j) ≤ cap → Readable (take m (drop a t)) (x i) (x j)
+  readable : (i j a m : ℕ) → m ≤ sideSize → weight (take m (drop a t)) (r i) (r j) ≤ cap → Readable (take m (drop a t)) (x i) (x j)
   unfolding below
-  readable i j a m p q h l = record { few = omega (arith, length-take m (drop a t)); near-x = ready .near i p; near-y = ready .near j q; light = l }
+  readable i j a m h l = record { few = omega (arith, length-take m (drop a t)); light = l }
 
   read-own : Readable own (x 0) (x 3)
-  read-own = readable 0 3 (limitsSize + blockSize * b + pitchSize * n) pitchSize (omega arith) (omega arith) (omega arith) (omega (arith, weights))
+  read-own = readable 0 3 (limitsSize + blockSize * b + pitchSize * n) pitchSize (omega arith) (omega (arith, weights))
 
   read-xi : Readable xi (x 1) (x 2)
-  read-xi = readable 1 2 (limitsSize + blockSize * b + xiStart) sideSize (omega arith) (omega arith) (omega arith) (omega (arith, weights))
+  read-xi = readable 1 2 (limitsSize + blockSize * b + xiStart) sideSize (omega arith) (omega (arith, weights))
 
   read-zeta : Readable zeta (x 1) (x 4)
-  read-zeta = readable 1 4 (limitsSize + blockSize * b + zetaStart) sideSize (omega arith) (omega arith) (omega arith) (omega (arith, weights))
+  read-zeta = readable 1 4 (limitsSize + blockSize * b + zetaStart) sideSize (omega arith) (omega (arith, weights))
 
   bound : (l : List ℤ) (i j : ℕ) → natAbs (value l (x i) (x j)) ≤ weight l (r i) (r j)
   bound l i j = value-within l (x i) (x j) (r i) (r j) (N.le-max-right 1 (natAbs (x i))) (N.le-max-right 1 (natAbs (x j)))

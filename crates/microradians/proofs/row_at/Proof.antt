@@ -1,22 +1,19 @@
 -- `microradians::row_at` meets its contract. The loop's invariant: the row is what its numbers from the power p on come to. Assumes nothing.
 use mathlib.Core.Path.{_≡_, sym, _∙_, ap, ap₂, subst}
 use mathlib.Core.List.{List}
-use Prim.Native.Nat.{ℕ, suc, _+_, _-_, _≤_, _<_}
+use Prim.Native.Nat.{ℕ, _+_, _-_, _≤_, _<_}
 use native.Mathlib.Nat as N
 use native.Mathlib.Omega.{arith}
 use borrow.Author.Needs.{needs, sfits-of}
 use lib.IntN.{ℤ, natAbs, _+ℤ_}
-use lib.ListN.{length}
 use mir.Syntax.{w64}
 use mir.Val.{SFits, toZ, ofZ}
 use mir.Facts.{toZ-ofZ}
 use Rattle.whole.proofs.Machine.{natAbs-sfits, op-bits, op-back}
 use Rattle.polynomials.specs.Numbers.{ints}
-use Rattle.polynomials.specs.Order.{place}
 use Rattle.polynomials.specs.Group.{number}
 use Rattle.polynomials.specs.Limits.{highestDegree}
 use Rattle.polynomials.specs.Downward.{down}
-use Rattle.polynomials.proofs.Places.{place-below}
 use Rattle.polynomials.proofs.Downward.{down-start, down-more}
 use Rattle.microradians.specs.Fixed.{_⊛_}
 use Rattle.microradians.specs.Ready.{most, Near}
@@ -52,8 +49,8 @@ module _ (c : tie.Start Inv-loop μ-loop) where
   abbrev row : ℕ → ℤ
   row p = down ints _⊛_ number-of x (last - p) p
 
-  at : (p : ℕ) → p ≤ last → (p + c .args .q ≤ highestDegree) × (place p (c .args .q) < length l)
-  at p h = (omega (arith, c .pre .0 .low), omega (arith, c .pre .0 .room, place-below (suc (c .args .degree)) p (c .args .q) (omega arith)))
+  at : (p : ℕ) → p ≤ last → p + c .args .q ≤ highestDegree
+  at p h = omega (arith, c .pre .0 .low)
 
   small : (p : ℕ) → natAbs (row p) ≤ most
   small p = row-size (c .pre .0) x x near near (c .args .q) (last - p) p (omega arith)
