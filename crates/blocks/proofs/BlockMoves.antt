@@ -11,14 +11,14 @@ use lib.IntN.{ℤ}
 use lib.ListN.{length, take, drop, length-take, length-drop}
 use lib.Seq.{drop-drop, take-all}
 use Rattle.polynomials.specs.Order.{below}
-use Rattle.polynomials.specs.Groups.{Group, weightOf, totalWeight, movedGroup, movedGroups}
+use Rattle.polynomials.specs.Groups.{grouped, Group, weightOf, totalWeight, movedGroup, movedGroups}
 use Rattle.polynomials.specs.Limits.{cap}
 use Rattle.polynomials.proofs.Together.{length-movedIf}
 use Rattle.layout.specs.Shape.{kindsLength, cumulus}
 use Rattle.layout.specs.Numbers.{pitchSize, sideSize, xiStart, zetaStart, blockSize}
 use Rattle.layout.specs.Blocks.{low, high, groups, laidOut, chosen}
 use Rattle.layout.specs.Moving.{movedBlock}
-use Rattle.blocks.specs.Ready.{grouped, between, placed, shiftReach, ShiftableGroup, Shiftable}
+use Rattle.blocks.specs.Ready.{between, placed, shiftReach, ShiftableGroup, Shiftable}
 use Rattle.blocks.proofs.Filled.{length-placed, take-placed}
 
 -- the four groups of a block

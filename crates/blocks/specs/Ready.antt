@@ -5,7 +5,7 @@ use Prim.Native.Nat.{ℕ, _+_, _-_, _≤_, _<_, max}
 use lib.IntN.{ℤ, natAbs}
 use lib.ListN.{length, take, drop}
 use Rattle.polynomials.specs.Order.{size}
-use Rattle.polynomials.specs.Groups.{Group, weightOf, totalWeight, longer}
+use Rattle.polynomials.specs.Groups.{grouped, weightOf, totalWeight, longer}
 use Rattle.polynomials.specs.Limits.{cap, farthest, highestDegree}
 use Rattle.polynomials.specs.Ready.{Readable}
 use Rattle.layout.specs.Shape.{tableLength, blockLength, cumulus}
@@ -25,9 +25,6 @@ pub record Valued (t : List ℤ) (b n : ℕ) (x : List ℤ) : Type 0 where
   pub block : b < cumulus .blocks
   pub half : n < 2
   pub light : totalWeight (coefficient cumulus t b (piece n)) (λ i. max 1 (natAbs (readings x i))) ≤ cap
-
-abbrev pub grouped : ℕ → ℕ → List ℤ → Group
-grouped u v l = record { u = u; v = v; numbers = l }
 
 -- reaches of 1, variable i's longer by |s|
 abbrev pub shiftReach : ℕ → ℤ → ℕ → ℕ

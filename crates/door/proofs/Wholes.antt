@@ -11,15 +11,14 @@ use lib.IntN.{ℤ, pos, _+ℤ_}
 use lib.Signed.{_≤ℤ_}
 use lib.Ieee.{Float}
 use Rattle.polynomials.specs.Group.{value}
-use Rattle.polynomials.specs.Groups.{total}
+use Rattle.polynomials.specs.Groups.{grouped, total}
 use Rattle.layout.specs.Shape.{cumulus}
 use Rattle.layout.specs.Limits.{lowest, highest}
 use Rattle.layout.specs.Blocks.{Piece, low, high, piece, coefficient}
 use Rattle.layout.specs.Refusals.{first}
 use Rattle.layout.specs.Reading.{inside}
 use Rattle.layout.proofs.Tests.{&&-both, fact-leZ}
-use Rattle.blocks.specs.Ready.{grouped}
-use Rattle.blocks.proofs.Parts.{coefficient-parts}
+use Rattle.layout.proofs.Parts.{coefficient-parts}
 use Rattle.rounding.specs.Reading.{wholeOf}
 use Rattle.rounding.specs.declared.Step.{Step}
 use Rattle.rounding.specs.declared.Step.the-variants.{Whole}

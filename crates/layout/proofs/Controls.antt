@@ -12,10 +12,11 @@ use Rattle.polynomials.specs.Binomial.{choose}
 use Rattle.polynomials.specs.Group.{number, term, evaluated, given, movedNumber, replaced}
 use Rattle.polynomials.specs.Groups.{total, totalWeight, movedGroup, longer}
 use Rattle.layout.specs.Shape.{Shape, limitsLength, lowestPlace, highestPlace, kindsLength, blockLength, blockStart, tableLength, cumulus}
-use Rattle.layout.specs.Numbers.{limitsSize, blockSize, tableSize, pitchSize, sideSize, xiStart, zetaStart}
+use Rattle.layout.specs.Numbers.{limitsSize, blockSize, tableSize, pitchDegree, sideDegree, pitchSize, sideSize, xiStart, zetaStart}
 use Rattle.layout.specs.Limits.{every, allInRange, good}
 use Rattle.layout.specs.Blocks.{low, high, block, groups, laidOut, chosen, coefficient}
 use Rattle.layout.specs.Sound.{reach, withinCap, light, sound}
+use Rattle.layout.specs.Reaches.{reachCount, reachAt, reachesOf}
 use Rattle.layout.specs.Refusals.{first}
 use Rattle.layout.specs.Reading.{readings, inside, values, readNumber, readOutput}
 use Rattle.layout.specs.Moving.{owner, joined, movedLimit, movedLimits, movedBlock, movedTable, moveNumber, moveOutput}
@@ -28,6 +29,10 @@ lengths = refl
 named : limitsSize ∷ pitchSize ∷ sideSize ∷ xiStart ∷ zetaStart ∷ blockSize ∷ tableSize ∷ [] ≡ 11 ∷ size 3 ∷ size 4 ∷ 20 ∷ 35 ∷ 50 ∷ 311 ∷ []
 unfolding below
 named = refl
+
+degrees : size pitchDegree ∷ size sideDegree ∷ [] ≡ 10 ∷ 15 ∷ []
+unfolding below
+degrees = refl
 
 starts : map (blockStart cumulus) (0 ∷ 1 ∷ 2 ∷ 3 ∷ 4 ∷ 5 ∷ []) ≡ 11 ∷ 61 ∷ 111 ∷ 161 ∷ 211 ∷ 261 ∷ []
 unfolding kindsLength below
@@ -101,6 +106,15 @@ reaches-worked : map reaches (bounds (negℤ (pos 10)) (negℤ (pos 8)) (pos 5) 
     ∷ bounds (pos 0) (pos 0) (pos 1) (pos 0) (pos 0)
     ∷ []) ≡ (10 ∷ 7 ∷ 5 ∷ 5 ∷ []) ∷ (6 ∷ 9 ∷ 4 ∷ 4 ∷ []) ∷ (1 ∷ 1 ∷ 1 ∷ 1 ∷ []) ∷ []
 reaches-worked = refl
+
+-- alpha from -10 to -8 and from -7 to 5, beta from -5 to 0
+row-worked : listed (reachCount smallShape) (reachAt (reach (bounds (negℤ (pos 10)) (negℤ (pos 8)) (pos 5) (negℤ (pos 5)) (pos 0)))) ≡ 10 ∷ 7 ∷ 5 ∷ []
+unfolding listed
+row-worked = refl
+
+row-read : map (λ p. listed 2 (reachesOf (10 ∷ 7 ∷ 5 ∷ []) p)) (low ∷ high ∷ []) ≡ (10 ∷ 5 ∷ []) ∷ (7 ∷ 5 ∷ []) ∷ []
+unfolding listed
+row-read = refl
 
 -- ════ reading and moving
 -- limits -10, 3 and 20, and -5 and 0. Up to the cut 100 + 7 u - 2 v and 1 - u, above it 40 - u + 6 v and 2 + 3 u; 1000 and -500 are added in both

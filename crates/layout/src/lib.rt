@@ -10,9 +10,14 @@ pub const BLOCKS: usize = 6;
 pub const LIMITS: usize = 1 + 2 * VARIABLES;
 
 // Then the blocks. In a block: the low and the high group in alpha and eta, then the side groups in beta and xi and in beta and zeta.
-pub const PITCH: usize = 10;
+pub const PITCH_DEGREE: usize = 3;
 
-pub const SIDE: usize = 15;
+pub const SIDE_DEGREE: usize = 4;
+
+// A group has its numbers of degree 0, 1 and so on, one more for each.
+pub const PITCH: usize = (PITCH_DEGREE + 1) * (PITCH_DEGREE + 2) / 2;
+
+pub const SIDE: usize = (SIDE_DEGREE + 1) * (SIDE_DEGREE + 2) / 2;
 
 pub const XI_START: usize = PITCH + PITCH;
 
@@ -21,3 +26,6 @@ pub const ZETA_START: usize = XI_START + SIDE;
 pub const BLOCK: usize = ZETA_START + SIDE;
 
 pub const TABLE: usize = LIMITS + BLOCK * BLOCKS;
+
+// The reaches of a table in a row: that of alpha in the low piece, then those of every variable in the high piece.
+pub const REACHES: usize = 1 + VARIABLES;

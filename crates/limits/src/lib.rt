@@ -1,5 +1,6 @@
 // The limits of the readings: read from a table, tested, moved, and held against a reading.
 use layout::LIMITS;
+use layout::REACHES;
 use layout::VARIABLES;
 use layout::refusals::DONE;
 use layout::refusals::OUTSIDE;
@@ -10,11 +11,11 @@ ghost use lib.IntN.{pos, natAbs};
 ghost use lib.ListN.{length, take, getD};
 ghost use lib.Signed.{leZ, ltZ};
 ghost use Rattle.polynomials.specs.Sum.{listed};
-ghost use Rattle.polynomials.specs.Limits.{farthest};
 ghost use Rattle.layout.specs.Shape.{cumulus, limitsLength};
 ghost use Rattle.layout.specs.Limits.{lowest, highest, cut, longestShift, allInRange, inOrder, good};
 ghost use Rattle.layout.specs.Blocks.{piece as pieceOf};
 ghost use Rattle.layout.specs.Sound.{span, reach};
+ghost use Rattle.layout.specs.Reaches.{reachCount, reachAt};
 ghost use Rattle.layout.specs.Refusals.{outside, first, _when_};
 ghost use Rattle.layout.specs.Reading.{readings, inside};
 ghost use Rattle.layout.specs.Moving.{owner, movedLimit, movedLimits};
@@ -54,13 +55,12 @@ fn larger(m: u64, n: u64) -> u64
 }
 
 // The largest of 1 and the magnitudes of two limits.
-fn span(a: i64, b: i64) -> i64
-    requires { ⌜ (natAbs a ≤ farthest) × (natAbs b ≤ farthest) ⌝ }
-    ensures { λ r. ⌜ r ≡ pos (span a b) ⌝ }
+fn span(a: i64, b: i64) -> u64
+    ensures { λ r. ⌜ r ≡ span a b ⌝ }
 {
     let m = whole::magnitude(a);
     let n = whole::magnitude(b);
-    larger(1, larger(m, n)) as i64
+    larger(1, larger(m, n))
 }
 
 impl Limits {
@@ -174,9 +174,9 @@ impl Limits {
     }
 
     // How far a variable reaches in a piece: 0 is the low piece, any other number the high one.
-    fn reach(self, piece: usize, variable: usize) -> i64
+    fn reach(self, piece: usize, variable: usize) -> u64
         requires { ⌜ (allInRange cumulus (self .numbers) ≡ true) × (variable < cumulus .variables) ⌝ }
-        ensures { λ r. ⌜ r ≡ pos (reach (self .numbers) (pieceOf piece) variable) ⌝ }
+        ensures { λ r. ⌜ r ≡ reach (self .numbers) (pieceOf piece) variable ⌝ }
     {
         if variable == 0 {
             let cut = self.at(CUT);
@@ -188,17 +188,18 @@ impl Limits {
         span(self.lowest(variable), self.highest(variable))
     }
 
-    // The reach of each variable in a piece.
-    pub fn reaches(self, piece: usize) -> [i64; VARIABLES]
+    // The reaches in a row: that of variable 0 in the low piece, then those of every variable in the high piece.
+    pub fn reaches(self) -> [u64; REACHES]
         requires { ⌜ allInRange cumulus (self .numbers) ≡ true ⌝ }
-        ensures { λ r. ⌜ r ≡ listed (cumulus .variables) (λ i. pos (reach (self .numbers) (pieceOf piece) i)) ⌝ }
+        ensures { λ r. ⌜ r ≡ listed (reachCount cumulus) (reachAt (reach (self .numbers))) ⌝ }
     {
         [
-            self.reach(piece, 0),
-            self.reach(piece, 1),
-            self.reach(piece, 2),
-            self.reach(piece, 3),
-            self.reach(piece, 4),
+            self.reach(0, 0),
+            self.reach(1, 0),
+            self.reach(1, 1),
+            self.reach(1, 2),
+            self.reach(1, 3),
+            self.reach(1, 4),
         ]
     }
 

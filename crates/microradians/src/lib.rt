@@ -5,6 +5,8 @@ use cumulus::CUT_MICRORADIANS;
 use cumulus::PUBLISHED;
 use layout::BLOCKS;
 use layout::LIMITS;
+use layout::PITCH_DEGREE;
+use layout::SIDE_DEGREE;
 use layout::VARIABLES;
 use layout::refusals::DONE;
 use layout::refusals::WRONG_OUTPUT;
@@ -37,11 +39,6 @@ const MILLIRADIAN: i64 = 1_000;
 const XI: usize = 2;
 
 const ZETA: usize = 3;
-
-// The degrees of the groups in alpha and eta, and of those in beta.
-const PITCH_DEGREE: usize = 3;
-
-const SIDE_DEGREE: usize = 4;
 
 // The envelope in microradians, as a table has its limits.
 const FINE_ENVELOPE: [i64; LIMITS] = [

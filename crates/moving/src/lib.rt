@@ -2,11 +2,13 @@
 ghost use mathlib.Core.Path.{_≡_};
 ghost use mathlib.Core.Bool.{true, not};
 ghost use mathlib.Core.List.{[], _∷_, _++_};
-ghost use Prim.Native.Nat.{_<_, _≤_};
-ghost use lib.IntN.{pos, natAbs, _+ℤ_};
-ghost use lib.ListN.{length, drop, getD, set};
+ghost use Prim.Native.Nat.{_+_, _-_, _^_, _<_, _≤_};
+ghost use lib.ListN.{length, drop, getD};
+ghost use Rattle.polynomials.specs.Sum.{listed};
+ghost use Rattle.polynomials.specs.Groups.{longer};
 ghost use Rattle.layout.specs.Shape.{cumulus, limitsLength, tableLength};
 ghost use Rattle.layout.specs.Limits.{allInRange, good};
+ghost use Rattle.layout.specs.Reaches.{reachCount, reachAt, reachesOf};
 ghost use Rattle.layout.specs.Moving.{movedLimits, movedTable, moveLight, moveNumber, moveOutput};
 ghost use Rattle.layout.specs.Accepted.{MoveAccepted};
 ghost use Rattle.layout.specs.Refusals.{first, _when_, limitPast, moveTooHeavy};
@@ -15,6 +17,7 @@ use blocks::move_block;
 use layout::BLOCK;
 use layout::BLOCKS;
 use layout::LIMITS;
+use layout::REACHES;
 use layout::TABLE;
 use layout::VARIABLES;
 use layout::refusals::DONE;
@@ -25,22 +28,47 @@ use layout::refusals::WRONG_OUTPUT;
 use layout::refusals::WRONG_TABLE;
 use limits::Limits;
 use limits::MOST;
-use quick::within_cap;
 use shifting::multiplied_out;
 use tables::soundness::soundness;
+use weights::within_cap;
 
 // No shift from one limit in range to another is longer.
 const LONGEST: u64 = (MOST + MOST) as u64;
 
-// The reaches with that of one variable longer by the size of the shift.
-fn longer(reaches: [i64; VARIABLES], variable: usize, shift: i64) -> [i64; VARIABLES]
-    requires { ⌜ Lengthened reaches variable shift ⌝ }
-    ensures { λ r. ⌜ r ≡ set reaches variable (getD reaches variable (pos 0) +ℤ pos (natAbs shift)) ⌝ }
+// The variable that the reach at a place of the row belongs to: variable 0 has two, and each other one.
+fn owner(place: usize) -> usize
+    ensures { λ r. ⌜ r ≡ place - 1 ⌝ }
 {
-    let mut longer = reaches;
-    let reach = longer[variable];
-    let more = whole::magnitude(shift) as i64;
-    longer[variable] = reach + more;
+    if place == 0 {
+        return 0;
+    }
+    place - 1
+}
+
+// The reach at a place of the row, longer by `more` where it is the variable's.
+fn longer_at(reaches: [u64; REACHES], place: usize, variable: usize, more: u64) -> u64
+    requires { ⌜ (place < reachCount cumulus) × (getD reaches place 0 + more < 2 ^ 64) ⌝ }
+    ensures { λ r. ⌜ r ≡ reachAt (λ p. longer variable more (reachesOf reaches p)) place ⌝ }
+{
+    let reach = reaches[place];
+    if owner(place) == variable {
+        return reach + more;
+    }
+    reach
+}
+
+// The reaches with each of one variable longer by `more`.
+fn longer(reaches: [u64; REACHES], variable: usize, more: u64) -> [u64; REACHES]
+    requires { ⌜ Lengthened reaches more ⌝ }
+    ensures { λ r. ⌜ r ≡ listed (reachCount cumulus) (reachAt (λ p. longer variable more (reachesOf reaches p))) ⌝ }
+{
+    let mut longer: [u64; REACHES] = [0; REACHES];
+    let mut k: usize = 0;
+    while k < REACHES {
+        let reach = longer_at(reaches, k, variable, more);
+        longer[k] = reach;
+        k += 1;
+    }
     longer
 }
 
@@ -63,16 +91,16 @@ fn refusal(table: &[i64], variable: usize, shift: i64) -> u64
     requires { ⌜ (length (now table) ≡ tableLength cumulus) × ((variable < cumulus .variables) × (good cumulus (now table) ≡ true)) ⌝ }
     ensures { λ r. ⌜ r ≡ first ((limitPast when not (allInRange cumulus (movedLimits cumulus variable shift (now (table .entry))))) ∷ (moveTooHeavy when not (moveLight cumulus variable shift (now (table .entry)))) ∷ []) ⌝ }
 {
-    if whole::magnitude(shift) > LONGEST {
+    let size = whole::magnitude(shift);
+    if size > LONGEST {
         return LIMIT_PAST;
     }
     let limits = Limits::of(table).moved(variable, shift);
     if !limits.in_range() {
         return LIMIT_PAST;
     }
-    let low = longer(limits.reaches(0), variable, shift);
-    let high = longer(limits.reaches(1), variable, shift);
-    if within_cap(table, low, high) {
+    let reaches = longer(limits.reaches(), variable, size);
+    if within_cap(table, reaches) {
         return DONE;
     }
     MOVE_TOO_HEAVY

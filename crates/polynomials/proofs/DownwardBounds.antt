@@ -2,10 +2,11 @@
 --   down-part, down-product, down-number   at naturals, r at least 1: what is taken so far, that times r, and each number are at most what all come to
 --   down-within              the magnitude of a sum is at most what the magnitudes come to
 --   product-fits, next-fits  so what the code forms on the way fits 64 bits, where the magnitudes come to the cap at most
---   weight-rows              the weight of a group by its rows
 --   number-size, row-size    a number, and a row, against its magnitudes
---   row-light                no row weighs more than the group
-use mathlib.Core.Path.{_≡_, sym, ap, subst}
+--   weight-rows              the weight of a group by its rows
+--   rowsWeight, rows-none, rows-more, rows-all   the rows from a power on, as a loop takes them
+--   rows-part, row-light     neither these nor a single row weigh more than the group
+use mathlib.Core.Path.{_≡_, sym, _∙_, ap, subst}
 use mathlib.Core.List.{List, map}
 use Prim.Native.Nat.{ℕ, zero, suc, _+_, _-_, _*_, _≤_, _<_}
 use native.Mathlib.Nat as N
@@ -24,7 +25,7 @@ use Rattle.polynomials.specs.Group.{number, weight}
 use Rattle.polynomials.specs.Downward.{down, rowDownward, rowWeight}
 use Rattle.polynomials.specs.Limits.{cap}
 use Rattle.polynomials.proofs.Semiring.{natural}
-use Rattle.polynomials.proofs.Downward.{down-start, down-more, down-all, rows-value}
+use Rattle.polynomials.proofs.Downward.{down-start, down-more, down-all, row-past, rows-value}
 
 -- ════ at naturals
 module _ (g : ℕ → ℕ) (r : ℕ) (one : 1 ≤ r) (n : ℕ) where
@@ -88,10 +89,31 @@ module _ (d : ℕ) (l : List ℤ) where
   pub row-size : (x : ℤ) (r q : ℕ) → natAbs x ≤ r → natAbs (rowDownward ints _*ℤ_ d (number ints l) x q) ≤ rowWeight d l r q
   row-size x r q h = down-within (λ p. number ints l p q) (λ p. number nats (map natAbs l) p q) x r (λ p. number-size p q) h (d - q) 0
 
-  module _ (few : length l ≤ size d) (r t : ℕ) where
-    -- also where rows past the degree are taken, which are 0
-    pub weight-rows : (e : ℕ) → d ≤ e → down nats _*_ (rowWeight d l r) t e 0 ≡ weight l r t
-    weight-rows = rows-value natural d (map natAbs l) (omega (arith, length-map l natAbs)) r t
+  module _ (r t : ℕ) where
+    -- what the rows from the power q on weigh; one more stands above them, which is 0, so that a loop may start with nothing
+    abbrev pub rowsWeight : ℕ → ℕ
+    rowsWeight q = down nats _*_ (rowWeight d l r) t (d + 1 - q) q
 
-    pub row-light : 1 ≤ t → (q : ℕ) → q ≤ d → rowWeight d l r q ≤ weight l r t
-    row-light one q h = omega (arith, down-number (rowWeight d l r) t one d q h, weight-rows d (N.le-refl d))
+    pub rows-more : (q : ℕ) {s : ℕ} → q ≤ d → s ≡ rowsWeight (q + 1) → s * t + rowWeight d l r q ≡ rowsWeight q
+    rows-more q h e = ap (λ m. m * t + rowWeight d l r q) e ∙ sym (down-more nats _*_ (rowWeight d l r) t (d + 1) q (omega arith))
+
+    module _ (few : length l ≤ size d) where
+      few-sizes : length (map natAbs l) ≤ size d
+      few-sizes = omega (arith, length-map l natAbs)
+
+      pub rows-none : rowsWeight (d + 1) ≡ 0
+      rows-none = down-start nats _*_ (rowWeight d l r) t (d + 1) ∙ row-past natural d (map natAbs l) few-sizes r t (d + 1) (omega arith)
+
+      -- all rows, also where some above the degree are taken
+      pub weight-rows : (e : ℕ) → d ≤ e → down nats _*_ (rowWeight d l r) t e 0 ≡ weight l r t
+      weight-rows = rows-value natural d (map natAbs l) few-sizes r t
+
+      pub rows-all : rowsWeight 0 ≡ weight l r t
+      rows-all = down-all nats _*_ (rowWeight d l r) t (d + 1) ∙ weight-rows (d + 1) (omega arith)
+
+      module _ (one : 1 ≤ t) (q : ℕ) (h : q ≤ d) where
+        pub rows-part : rowsWeight q ≤ weight l r t
+        rows-part = omega (arith, down-part (rowWeight d l r) t one (d + 1) q (omega arith), weight-rows (d + 1) (omega arith))
+
+        pub row-light : rowWeight d l r q ≤ weight l r t
+        row-light = omega (arith, down-number (rowWeight d l r) t one d q h, weight-rows d (N.le-refl d))

@@ -5,11 +5,10 @@
 --   below-is, below-highest      how many stand before a degree, as the code works it out; before all degrees past the highest
 --   degree-place                 a place is at least the total degree that stands there
 --   below-mono                   more degrees have more numbers
---   degree-powers                below `below n` stand total degrees below n
+--   degree-powers, few-powers    below `below n` stand total degrees below n; so they do in a group that the code serves
 --   powers-more                  what stands at the next place
 --   next-degree, next-same       the step from one place to the next, as the code takes it
---   previous-degree, previous-same   and the step back
-use mathlib.Core.Path.{_≡_, refl, sym, _∙_, ap, ap₂}
+use mathlib.Core.Path.{_≡_, refl, sym, _∙_, ap}
 use Prim.Native.Nat.{ℕ, zero, suc, _+_, _*_, _-_, _/_, _≤_, _<_}
 use native.Mathlib.Nat as N
 use native.Mathlib.Omega.{arith}
@@ -99,6 +98,9 @@ degree-powers n k h = pick (decLt (powers k .first + powers k .second) n)
     pick (yes b) = b
     pick (no b) = absurd (omega (arith, place-past n (powers k .first) (powers k .second) (omega arith), place-powers k))
 
+pub few-powers : (w : Powers) (k n : ℕ) → n ≤ size highestDegree → k < n → w ≡ powers k → w .first + w .second ≤ highestDegree
+few-powers w k n few h e = rw e (omega (arith, degree-powers (suc highestDegree) k (N.lt-of-lt-of-le h few)))
+
 pub powers-more : (w : Powers) (k : ℕ) → w ≡ powers k → next w ≡ powers (k + 1)
 unfolding powers
 powers-more w k e = ap next e ∙ ap powers (sym (add-one k))
@@ -112,13 +114,3 @@ module _ (w : Powers) where
   next-same h =
       let e : suc (w .first - 1) ≡ w .first = omega arith in
       ap (λ q. record { first = w .first - 1; second = q }) (add-one (w .second)) ∙ ap (λ p. next (record { first = p; second = w .second })) e
-
-  pub previous-degree : 1 ≤ w .first + w .second → w .second ≡ 0 → next (record { first = 0; second = w .first - 1 }) ≡ w
-  previous-degree h e =
-      let d : suc (w .first - 1) ≡ w .first = omega arith in
-      ap₂ (λ p q. record { first = p; second = q }) d (sym e)
-
-  pub previous-same : (w .second ≡ 0 → ⊥) → next (record { first = w .first + 1; second = w .second - 1 }) ≡ w
-  previous-same h =
-      let d : suc (w .second - 1) ≡ w .second = omega arith in
-      ap (λ p. next (record { first = p; second = w .second - 1 })) (add-one (w .first)) ∙ ap (λ q. record { first = w .first; second = q }) d

@@ -1,14 +1,13 @@
 // Polynomials in two variables u and v, held as slices of numbers in the order of `specs/Order.antt`.
 ghost use mathlib.Core.Path.{_≡_};
 ghost use Prim.Native.Nat.{_+_, _*_, _^_, _≤_, _<_};
-ghost use lib.IntN.{pos, natAbs, pow, _*ℤ_};
+ghost use lib.IntN.{pos, _*ℤ_};
 ghost use Rattle.polynomials.specs.Numbers.{ints};
-ghost use Rattle.polynomials.specs.Sum.{listed};
 ghost use Rattle.polynomials.specs.Order.{next};
-ghost use Rattle.polynomials.specs.Group.{number, value};
-ghost use Rattle.polynomials.specs.Downward.{rowDownward};
-ghost use Rattle.polynomials.specs.Limits.{cap, farthest, highestDegree, against};
-ghost use Rattle.polynomials.specs.Ready.{Readable};
+ghost use Rattle.polynomials.specs.Group.{number, value, weight};
+ghost use Rattle.polynomials.specs.Downward.{rowDownward, rowWeight};
+ghost use Rattle.polynomials.specs.Limits.{highestDegree, against, joint};
+ghost use Rattle.polynomials.specs.Ready.{Readable, Reached, Weighable};
 
 // No weight may pass it: 9 x 10^18.
 pub const CAP: u64 = 9_000_000_000_000_000_000;
@@ -26,6 +25,24 @@ pub enum Variable {
 pub enum Weighed {
     Within(u64),
     Passed,
+}
+
+// A reach, and the most that it can multiply within the cap.
+pub struct Reach {
+    pub size: u64,
+    pub most: u64,
+}
+
+impl Reach {
+    pub fn of(size: u64) -> Reach
+        requires { ⌜ 1 ≤ size ⌝ }
+        ensures { λ r. ⌜ (r .size ≡ size) × Reached r ⌝ }
+    {
+        Reach {
+            size,
+            most: CAP / size,
+        }
+    }
 }
 
 // The powers of u and v that a number of a group stands before.
@@ -53,36 +70,6 @@ impl Powers {
             second: q + 1,
         }
     }
-
-    // What stands at the place before.
-    pub fn previous(self) -> Powers
-        requires { ⌜ (1 ≤ self .first + self .second) × (self .first + 1 < 2 ^ 64) ⌝ }
-        ensures { λ r. ⌜ next r ≡ self ⌝ }
-    {
-        let p = self.first;
-        let q = self.second;
-        if q == 0 {
-            return Powers {
-                first: 0,
-                second: p - 1,
-            };
-        }
-        Powers {
-            first: p + 1,
-            second: q - 1,
-        }
-    }
-}
-
-// x to the powers 0 to 4.
-pub fn powers_of(x: i64) -> [i64; 5]
-    requires { ⌜ natAbs x ≤ farthest ⌝ }
-    ensures { λ r. ⌜ r ≡ listed 5 (pow x) ⌝ }
-{
-    let square = x * x;
-    let cube = square * x;
-    let fourth = cube * x;
-    [1, x, square, cube, fourth]
 }
 
 // The number before the powers p of u and q of v; 0 where the group has none.
@@ -126,14 +113,46 @@ pub fn value_at(group: &[i64], x: i64, y: i64) -> i64
     sum
 }
 
-// The sum with the magnitude of one more number, `factor` times, or that it passes the cap. The quotient tells before the product is formed.
-pub fn add_term(sum: u64, number: i64, factor: u64) -> Weighed
-    requires { ⌜ (sum ≤ cap) × (1 ≤ factor) ⌝ }
-    ensures { λ r. ⌜ r ≡ against (sum + natAbs number * factor) ⌝ }
+// The sum times the reach v, and what the numbers beside the power q of v weigh at the reach u, together; or that one of the two passes
+// the cap. What a reach may multiply within the cap is known, so that nothing is formed that does not fit.
+pub fn add_row(sum: u64, group: &[i64], degree: usize, q: usize, u: Reach, v: Reach) -> Weighed
+    requires { ⌜ (q ≤ degree) × ((degree ≤ highestDegree) × (Reached u × Reached v)) ⌝ }
+    ensures { λ r. ⌜ r ≡ joint (sum * v .size) (rowWeight degree (now (group .entry)) (u .size) q) ⌝ }
 {
-    let m = whole::magnitude(number);
-    if m > (CAP - sum) / factor {
+    if sum > v.most {
         return Weighed::Passed;
     }
-    Weighed::Within(sum + m * factor)
+    let mut p = degree - q;
+    let mut row = whole::magnitude(number_at(group, p, q));
+    while p > 0 {
+        if row > u.most {
+            return Weighed::Passed;
+        }
+        p -= 1;
+        row = row * u.size + whole::magnitude(number_at(group, p, q));
+    }
+    if row > CAP {
+        return Weighed::Passed;
+    }
+    Weighed::Within(sum * v.size + row)
+}
+
+// The weight of a group at the reaches u and v, or that it passes the cap: its rows, from the highest power of v down.
+pub fn weight_at(group: &[i64], degree: usize, u: Reach, v: Reach) -> Weighed
+    requires { ⌜ Weighable (now group) degree u v ⌝ }
+    ensures { λ r. ⌜ r ≡ against (weight (now (group .entry)) (u .size) (v .size)) ⌝ }
+{
+    let mut sum: u64 = 0;
+    let mut rows = degree + 1;
+    while rows > 0 {
+        rows -= 1;
+        let Weighed::Within(more) = add_row(sum, group, degree, rows, u, v) else {
+            return Weighed::Passed;
+        };
+        sum = more;
+    }
+    if sum > CAP {
+        return Weighed::Passed;
+    }
+    Weighed::Within(sum)
 }

@@ -1,5 +1,5 @@
--- Every public contract but one leaves no choice: any two outcomes that it allows have the same result, and leave the same numbers in every slice that was lent. docs/CONTRACTS.md has the
--- functions in a table, with the one that is loose. Assumes nothing.
+-- Every public contract leaves no choice: any two outcomes that it allows have the same result, and leave the same numbers in every slice that was lent. docs/CONTRACTS.md has the
+-- functions in a table. Assumes nothing.
 --   Ensures      what a contract says of the arguments, the result and the parameters at exit
 --   Outcome      what a call may give back and leave behind by a contract
 --   Tight        any two outcomes of a call are the same, for all arguments, whether or not they meet the `requires`
@@ -7,7 +7,7 @@
 --   FN-tight     the contract of the function FN, as it is generated from the code's own `ensures`; a method has its type's name in front
 use mathlib.Core.Path.{_≡_, refl, sym, _∙_, ap}
 use mathlib.Core.List.{List, [], _∷_}
-use Prim.Native.Nat.{ℕ, _<_}
+use Prim.Native.Nat.{ℕ, _/_, _<_}
 use native.Mathlib.Decide.{decLt}
 use native.Mathlib.Omega.{arith}
 use lib.IntN.{ℤ}
@@ -19,9 +19,9 @@ use denote.Signature.{Slot, typesAt}
 use denote.Triple.Entry.{Args, Res}
 use denote.Triple.End.{Kepts, Fins}
 use denote.Triple.Clauses.{Ended, Lasts, AtExit, atExit}
-use Rattle.polynomials.specs.Order.{next, powers, place}
-use Rattle.polynomials.specs.declared.Powers.{Powers}
-use Rattle.polynomials.proofs.Places.{place-next, powers-place}
+use Rattle.polynomials.specs.Limits.{cap}
+use Rattle.polynomials.specs.Ready.{Reached}
+use Rattle.polynomials.specs.declared.Reach.{Reach}
 use Rattle.limits.specs.declared.Limits.{Limits}
 use Rattle.printing.specs.Spell.{written}
 use Rattle.answers.specs.Reading.{readingsAfter, answersOf, Feeding}
@@ -32,7 +32,6 @@ use Rattle.polynomials.proofs as polynomials
 use Rattle.shifting.proofs as shifting
 use Rattle.limits.proofs as limits
 use Rattle.weights.proofs as weights
-use Rattle.quick.proofs as quick
 use Rattle.blocks.proofs as blocks
 use Rattle.tables.proofs as tables
 use Rattle.moving.proofs as moving
@@ -91,29 +90,29 @@ pub nearest-away-tight : Tight whole.nearest_away.ended whole.nearest_away.Reads
 nearest-away-tight κs a o p = tight o p (search same)
 
 -- ════ polynomials
-at-place : (w : Powers) → powers (place (w .first) (w .second)) ≡ w
-at-place w = let e = powers-place (w .first) (w .second) in λ i. record { first = e .0 i; second = e .1 i }
+same-reach : {x y : Reach} {n : ℕ} → (x .size ≡ n) × Reached x → (y .size ≡ n) × Reached y → x ≡ y
+same-reach h k =
+    let size = h .0 ∙ sym (k .0) in
+    let most = h .1 .most-is ∙ ap (λ n. cap / n) size ∙ sym (k .1 .most-is) in
+    λ i. record { size = size i; most = most i }
 
--- `previous` says what stands next to its result, and that stands next to nothing else
-same-powers : {v w : Powers} → next v ≡ next w → v ≡ w
-same-powers {v} {w} e =
-    let d : place (v .first) (v .second) ≡ place (w .first) (w .second) = omega (arith, place-next v, place-next w, ap (λ u. place (u .first) (u .second)) e) in
-    sym (at-place v) ∙ ap powers d ∙ at-place w
+pub reach-of-tight : Tight polynomials.Reach.of.ended polynomials.Reach.of.Reads.Post
+reach-of-tight κs a o p = tight o p (same-reach (o .allowed) (p .allowed), tt)
 
 pub powers-next-tight : Tight polynomials.Powers.next.ended polynomials.Powers.next.Reads.Post
 powers-next-tight κs a o p = tight o p (search same)
 
-pub powers-previous-tight : Tight polynomials.Powers.previous.ended polynomials.Powers.previous.Reads.Post
-powers-previous-tight κs a o p = tight o p (search (same, same-powers))
-
-pub powers-of-tight : Tight polynomials.powers_of.ended polynomials.powers_of.Reads.Post
-powers-of-tight κs a o p = tight o p (search same)
+pub number-at-tight : Tight polynomials.number_at.ended polynomials.number_at.Reads.Post
+number-at-tight κs a o p = tight o p (search same)
 
 pub value-at-tight : Tight polynomials.value_at.ended polynomials.value_at.Reads.Post
 value-at-tight κs a o p = tight o p (search same)
 
-pub add-term-tight : Tight polynomials.add_term.ended polynomials.add_term.Reads.Post
-add-term-tight κs a o p = tight o p (search same)
+pub add-row-tight : Tight polynomials.add_row.ended polynomials.add_row.Reads.Post
+add-row-tight κs a o p = tight o p (search same)
+
+pub weight-at-tight : Tight polynomials.weight_at.ended polynomials.weight_at.Reads.Post
+weight-at-tight κs a o p = tight o p (search same)
 
 -- ════ shifting
 pub multiplied-out-tight : Tight shifting.multiplied_out.ended shifting.multiplied_out.Reads.Post
@@ -157,11 +156,7 @@ pub limits-in-low-piece-tight : Tight limits.Limits.in_low_piece.ended limits.Li
 limits-in-low-piece-tight κs a o p = tight o p (search same)
 
 -- ════ weights
-pub each-within-tight : Tight weights.each_within.ended weights.each_within.Reads.Post
-each-within-tight κs a o p = tight o p (search same)
-
--- ════ quick
-pub within-cap-tight : Tight quick.within_cap.ended quick.within_cap.Reads.Post
+pub within-cap-tight : Tight weights.within_cap.ended weights.within_cap.Reads.Post
 within-cap-tight κs a o p = tight o p (search same)
 
 -- ════ blocks

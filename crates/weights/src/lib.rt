@@ -1,112 +1,114 @@
 // The weights of the coefficients, against the cap.
 ghost use mathlib.Core.Path.{_≡_};
-ghost use Prim.Native.Nat.{_+_, _<_};
-ghost use lib.IntN.{pos, natAbs};
-ghost use lib.ListN.{length, getD};
-ghost use Rattle.polynomials.specs.Sum.{listed};
+ghost use Prim.Native.Nat.{_+_, _<_, _≤_};
+ghost use lib.ListN.{getD};
 ghost use Rattle.polynomials.specs.Limits.{against};
+ghost use Rattle.polynomials.specs.Ready.{Reached};
 ghost use Rattle.layout.specs.Shape.{cumulus};
 ghost use Rattle.layout.specs.Sound.{withinCap};
-ghost use Rattle.weights.specs.Reaches.{reachesOf, Reaching, Checkable};
-ghost use Rattle.weights.specs.Terms.{product, factorAt, termPlace, terms, weighing, Fillable, Addable};
+ghost use Rattle.layout.specs.Reaches.{reachCount, reachesOf};
+ghost use Rattle.weights.specs.Ready.{either, sideWeight, Sided, Checkable};
 use layout::BLOCK;
 use layout::BLOCKS;
 use layout::LIMITS;
 use layout::PITCH;
+use layout::PITCH_DEGREE;
+use layout::REACHES;
 use layout::SIDE;
-use layout::VARIABLES;
-use polynomials::Powers;
+use layout::SIDE_DEGREE;
+use layout::XI_START;
+use polynomials::CAP;
+use polynomials::Reach;
 use polynomials::Weighed;
+use polynomials::add_row;
+use polynomials::weight_at;
 
 // Low and high.
 const PIECES: usize = 2;
 
-// Of the terms of a coefficient in a piece, those of the piece's own group come first, then those of beta and xi.
-const XI_END: usize = PITCH + SIDE;
+// Of beta and xi, and of beta and zeta.
+const SIDES: usize = 2;
 
-// Those of beta and zeta are the last.
-const TERMS: usize = XI_END + SIDE;
+// A group in alpha and eta has a row of terms for each power of eta.
+const PITCH_ROWS: usize = PITCH_DEGREE + 1;
 
-// Fills a group's part of the factors with the powers of the reaches r and s, in the order of the group's numbers.
-fn fill(part: &mut [u64], r: i64, s: i64)
-    requires { ⌜ Fillable (now part) r s ⌝ }
-    ensures { λ _. ⌜ now (part .exit) ≡ listed (length (now (part .entry))) (product (natAbs r) (natAbs s)) ⌝ }
+// The reach at a place of the row, with the most that it multiplies within the cap.
+fn reach_at(reaches: [u64; REACHES], place: usize) -> Reach
+    requires { ⌜ (place < reachCount cumulus) × (1 ≤ getD reaches place 0) ⌝ }
+    ensures { λ r. ⌜ (r .size ≡ getD reaches place 0) × Reached r ⌝ }
 {
-    let rs = polynomials::powers_of(r);
-    let ss = polynomials::powers_of(s);
-    let mut w = Powers {
-        first: 0,
-        second: 0,
-    };
-    let mut at: usize = 0;
-    while at < part.len() {
-        let p = w.first;
-        let q = w.second;
-        let factor = rs[p] * ss[q];
-        part[at] = factor as u64;
-        w = w.next();
-        at += 1;
+    Reach::of(reaches[place])
+}
+
+// Of two reaches, the first for 0.
+fn either(k: usize, a: Reach, b: Reach) -> Reach
+    ensures { λ r. ⌜ r ≡ either k a b ⌝ }
+{
+    if k == 0 {
+        return a;
     }
+    b
 }
 
-// The factor of each of the forty terms of a coefficient in one piece: powers of the reaches of alpha and eta for the first
-// ten, of beta and xi for the next fifteen, of beta and zeta for the last fifteen.
-fn factors(reaches: [i64; VARIABLES]) -> [u64; TERMS]
-    requires { ⌜ Reaching reaches ⌝ }
-    ensures { λ r. ⌜ r ≡ listed terms (factorAt (λ i. natAbs (getD reaches i (pos 0)))) ⌝ }
+// The weight of both side groups of the block that starts at a place, or that it passes the cap.
+fn sides(table: &[i64], start: usize, beta: Reach, xi: Reach, zeta: Reach) -> Weighed
+    requires { ⌜ Sided (now table) start beta xi zeta ⌝ }
+    ensures { λ r. ⌜ r ≡ against (sideWeight (now (table .entry)) start beta xi zeta 0 + sideWeight (now (table .entry)) start beta xi zeta 1) ⌝ }
 {
-    let mut f: [u64; TERMS] = [0; TERMS];
-    fill(&mut f[0..PITCH], reaches[0], reaches[3]);
-    fill(&mut f[PITCH..XI_END], reaches[1], reaches[2]);
-    fill(&mut f[XI_END..TERMS], reaches[1], reaches[4]);
-    f
-}
-
-// Where the number of a term stands in the table; the pieces share the side groups, which come after both of their own.
-fn term_place(block: usize, piece: usize, term: usize) -> usize
-    requires { ⌜ (block < cumulus .blocks) × ((piece < 2) × (term < terms)) ⌝ }
-    ensures { λ r. ⌜ r ≡ termPlace block piece term ⌝ }
-{
-    let start = LIMITS + BLOCK * block;
-    if term < PITCH {
-        return start + PITCH * piece + term;
+    let mut sum: u64 = 0;
+    let mut k: usize = 0;
+    while k < SIDES {
+        let from = start + XI_START + SIDE * k;
+        let to = from + SIDE;
+        let second = either(k, xi, zeta);
+        let Weighed::Within(more) = weight_at(&table[from..to], SIDE_DEGREE, beta, second) else {
+            return Weighed::Passed;
+        };
+        if more > CAP - sum {
+            return Weighed::Passed;
+        }
+        sum += more;
+        k += 1;
     }
-    start + PITCH + term
+    Weighed::Within(sum)
 }
 
-// The sum with one term more: its magnitude times its factor.
-fn with_term(
-    sum: u64,
-    table: &[i64],
-    rows: &[[u64; TERMS]; PIECES],
-    block: usize,
-    piece: usize,
-    term: usize,
-) -> Weighed
-    requires { ⌜ Addable (now table) (now rows) block piece term sum ⌝ }
-    ensures { λ r. ⌜ r ≡ against (sum + weighing (now (table .entry)) (now (rows .entry)) block piece term) ⌝ }
+// Whether every coefficient's weight in both pieces is within the cap, at the given reaches. It goes over the blocks, the pieces and their
+// terms, a row of these at a time, and leaves at the first block and piece whose weight passes. What the pieces share is weighed once.
+pub fn within_cap(table: &[i64], reaches: [u64; REACHES]) -> bool
+    requires { ⌜ Checkable (now table) reaches ⌝ }
+    ensures { λ r. ⌜ r ≡ withinCap cumulus (now (table .entry)) (reachesOf reaches) ⌝ }
 {
-    let at = term_place(block, piece, term);
-    polynomials::add_term(sum, table[at], rows[piece][term])
-}
-
-// Whether every coefficient's weight in both pieces is within the cap, at the given reaches. It leaves at the first block
-// and piece whose weight passes.
-pub fn each_within(table: &[i64], low: [i64; VARIABLES], high: [i64; VARIABLES]) -> bool
-    requires { ⌜ Checkable (now table) low high ⌝ }
-    ensures { λ r. ⌜ r ≡ withinCap cumulus (now (table .entry)) (reachesOf low high) ⌝ }
-{
-    let rows = [factors(low), factors(high)];
+    let low = reach_at(reaches, 0);
+    let high = reach_at(reaches, 1);
+    let beta = reach_at(reaches, 2);
+    let xi = reach_at(reaches, 3);
+    let eta = reach_at(reaches, 4);
+    let zeta = reach_at(reaches, 5);
     let mut ok = true;
     'blocks: for block in 0..BLOCKS {
+        let start = LIMITS + BLOCK * block;
+        let Weighed::Within(shared) = sides(table, start, beta, xi, zeta) else {
+            ok = false;
+            break 'blocks;
+        };
         for piece in 0..PIECES {
+            let alpha = either(piece, low, high);
+            let from = start + PITCH * piece;
+            let to = from + PITCH;
+            let group = &table[from..to];
             let mut sum: u64 = 0;
-            for term in 0..TERMS {
-                let Weighed::Within(more) = with_term(sum, table, &rows, block, piece, term) else {
+            for row in 0..PITCH_ROWS {
+                let q = PITCH_DEGREE - row;
+                let Weighed::Within(more) = add_row(sum, group, PITCH_DEGREE, q, alpha, eta) else {
                     ok = false;
                     break 'blocks;
                 };
                 sum = more;
+            }
+            if sum > CAP - shared {
+                ok = false;
+                break 'blocks;
             }
         }
     }

@@ -15,7 +15,7 @@ use Rattle.whole.proofs.Magnitudes.{natAbs-+}
 use Rattle.whole.proofs.Machine.{natAbs-sfits, op-bits, op-back}
 use Rattle.polynomials.specs.Order.{below}
 use Rattle.polynomials.specs.Group.{value, weight}
-use Rattle.polynomials.specs.Groups.{Group, total, totalWeight}
+use Rattle.polynomials.specs.Groups.{grouped, Group, total, totalWeight}
 use Rattle.polynomials.specs.Limits.{cap}
 use Rattle.polynomials.specs.Ready.{Readable}
 use Rattle.polynomials.proofs.Bounds.{value-within}
@@ -23,8 +23,8 @@ use Rattle.layout.specs.Shape.{kindsLength, cumulus}
 use Rattle.layout.specs.Numbers.{limitsSize, pitchSize, sideSize, xiStart, zetaStart, blockSize}
 use Rattle.layout.specs.Blocks.{piece, coefficient}
 use Rattle.layout.specs.Reading.{readings}
-use Rattle.blocks.specs.Ready.{grouped, GroupAt, Valued}
-use Rattle.blocks.proofs.Parts.{coefficient-parts}
+use Rattle.blocks.specs.Ready.{GroupAt, Valued}
+use Rattle.layout.proofs.Parts.{coefficient-parts}
 use Rattle.blocks.proofs.coefficient_at.Statement.{statement}
 use Rattle.blocks.proofs.coefficient_at.Tie as tie
 

@@ -1,64 +1,70 @@
--- `moving::longer` meets its contract: a reach and the size of a shift are both small. Assumes nothing.
-use mathlib.Core.Path.{_≡_, _∙_, ap}
+-- `moving::longer` meets its contract. The loop's invariant: the places before `k` hold the longer reaches. Assumes nothing.
+use mathlib.Core.Path.{_≡_, refl, _∙_}
+use Prim.Native.Nat.{ℕ, _-_, _≤_}
 use native.Mathlib.Omega.{arith}
 use borrow.Author.Needs.{needs}
-use lib.IntN.{ℤ, pos, natAbs, _+ℤ_}
-use lib.ListN.{getD, set}
-use mir.Syntax.{w64}
-use mir.Val.{SFits, toZ, ofZ}
-use mir.Facts.{toZ-ofZ}
-use Rattle.whole.proofs.Magnitudes.{natAbs-+}
-use Rattle.whole.proofs.Machine.{natAbs-sfits, op-bits, op-back}
+use lib.ListN.{length, take, length-set}
+use Rattle.polynomials.specs.Sum.{listed}
+use Rattle.polynomials.specs.Groups.{longer as longerBy}
+use Rattle.polynomials.proofs.Listed.{listed-more, listed-all}
+use Rattle.layout.specs.Shape.{cumulus}
+use Rattle.layout.specs.Reaches.{reachCount, reachAt, reachesOf}
 use Rattle.moving.proofs.longer.Statement.{statement}
 use Rattle.moving.proofs.longer.Tie as tie
 
-module _ (c : tie.After-magnitude) where
-  abbrev start : tie.Start
-  start = c .before .before
+abbrev Inv-loop : tie.InvT-loop
+Inv-loop reaches variable more longer₀ k₀ longer k =
+    (k ≤ reachCount cumulus) × (length longer ≡ reachCount cumulus) × (take k longer ≡ listed k (reachAt (λ p. longerBy variable more (reachesOf reaches p))))
 
-  abbrev reach : ℤ
-  reach = getD (start .args .reaches) (start .args .variable) (pos 0)
+abbrev μ-loop : tie.MeasureT-loop
+μ-loop reaches variable more longer₀ k₀ longer k = reachCount cumulus - k
 
-  size-is : c .magnitude .result ≡ natAbs (start .args .shift)
-  size-is = c .magnitude .ensures ∙ ap natAbs (toZ-ofZ (start .fits .shift))
+abbrev target : (c : tie.Start Inv-loop μ-loop) → ℕ → ℕ
+target c = reachAt (λ p. longerBy (c .args .variable) (c .args .more) (reachesOf (c .args .reaches) p))
 
-  more-fits : SFits w64 (pos (c .magnitude .result))
-  more-fits = natAbs-sfits (pos (c .magnitude .result)) (omega (arith, size-is, start .pre .near))
+loop-holds : tie.Need-loop-holds Inv-loop μ-loop
+unfolding listed
+loop-holds c = (omega arith, refl, refl)
 
-  more-is : toZ w64 (c .magnitude .result) ≡ pos (natAbs (start .args .shift))
-  more-is = toZ-ofZ more-fits ∙ ap pos size-is
+longer-at-requires : tie.Need-longer-at-requires Inv-loop μ-loop
+longer-at-requires c κs = (c .loop-test .taken, c .before .before .pre .fits (c .before .loop .k) (c .loop-test .taken))
 
-  reach-is : toZ w64 (ofZ w64 reach) ≡ reach
-  reach-is = toZ-ofZ (natAbs-sfits reach (omega (arith, start .pre .reach)))
-
-  sum-fits : SFits w64 (reach +ℤ pos (natAbs (start .args .shift)))
-  sum-fits = natAbs-sfits _ (omega (arith, natAbs-+ reach (pos (natAbs (start .args .shift))), start .pre .reach, start .pre .near))
-
-mul-reach : tie.Need-mul-reach
-mul-reach c = search needs
-
-array-copy-out-reach : tie.Need-array-copy-out-reach
-array-copy-out-reach c = c .pre .variable
-
-magnitude-requires : tie.Need-magnitude-requires
-magnitude-requires c κs = search needs
-
-cast-more : tie.Need-cast-more
-cast-more c = more-fits c
-
-add-longer : tie.Need-add-longer
-add-longer c = op-bits _+ℤ_ (reach-is c) (more-is c) (sum-fits c)
-
-mul-longer : tie.Need-mul-longer
+mul-longer : tie.Need-mul-longer Inv-loop μ-loop
 mul-longer c = search needs
 
-array-set-from-longer : tie.Need-array-set-from-longer
-array-set-from-longer c = start c .pre .variable
+array-write-longer : tie.Need-array-write-longer Inv-loop μ-loop
+array-write-longer c = search needs
 
-returns : tie.Need-returns
-returns c = ap (set (start c .args .reaches) (start c .args .variable)) (op-back _+ℤ_ (reach-is c) (more-is c) (sum-fits c))
+add-k : tie.Need-add-k Inv-loop μ-loop
+add-k c = search needs
+
+loop-less : tie.Need-loop-less Inv-loop μ-loop
+loop-less c = search needs
+
+loop-again : tie.Need-loop-again Inv-loop μ-loop
+loop-again c =
+    let l = c .before .before .loop in (
+      omega (arith, c .before .loop-test .taken),
+      length-set (l .longer) (l .k) _ ∙ l .inv .1,
+      listed-more (l .longer) (target (c .before .before .before)) (l .k) _ (omega (arith, l .inv .1, c .before .loop-test .taken)) (l .inv .2) (c .longer-at .ensures),
+    )
+
+returns : tie.Need-returns Inv-loop μ-loop
+returns c =
+    let l = c .before .loop in
+    listed-all (l .longer) (target (c .before .before)) (l .k) (reachCount cumulus) (l .inv .1) (omega (arith, l .inv .0, c .loop-test .left)) (l .inv .2)
 
 pub longer-spec : {M : Type 1} → statement M
 longer-spec =
     tie.close
-    (tie.spec mul-reach array-copy-out-reach magnitude-requires cast-more add-longer mul-longer array-set-from-longer returns)
+    (tie.spec
+    Inv-loop
+    μ-loop
+    loop-holds
+    longer-at-requires
+    mul-longer
+    array-write-longer
+    add-k
+    loop-less
+    loop-again
+    returns)

@@ -11,17 +11,20 @@ use mir.Syntax.{w64}
 use mir.Val.{toZ, ofZ}
 use mir.Facts.{toZ-ofZ}
 use Rattle.polynomials.specs.Order.{below}
+use Rattle.polynomials.specs.Groups.{longer}
 use Rattle.layout.specs.Shape.{cumulus, kindsLength}
 use Rattle.layout.specs.Limits.{longestShift, allInRange, good}
-use Rattle.layout.specs.Blocks.{low, high}
+use Rattle.layout.specs.Blocks.{Piece}
 use Rattle.layout.specs.Sound.{reach, withinCap}
+use Rattle.layout.specs.Reaches.{reachesOf}
 use Rattle.layout.specs.Moving.{movedLimits, moveReach, moveLight}
 use Rattle.layout.specs.Refusals.{limitPast, moveTooHeavy}
 use Rattle.layout.proofs.LimitLaws.{good-facts}
+use Rattle.layout.proofs.Reaches.{row, row-one}
 use Rattle.layout.proofs.Refused.{first-skip, first-hit}
-use Rattle.weights.specs.Reaches.{reachesOf, Reaching}
-use Rattle.tables.proofs.Taken.{first-nothing, range-taken, listedReaches, light-listed}
-use Rattle.moving.proofs.Steps.{moved-taken, longer-listed, move-far, lengthened, move-reaching}
+use Rattle.tables.proofs.Taken.{first-nothing, range-taken, light-row}
+use Rattle.moving.specs.Ready.{Lengthened}
+use Rattle.moving.proofs.Steps.{moved-taken, longer-row, move-far, lengthened, move-one, move-other}
 use Rattle.moving.proofs.refusal.Statement.{statement}
 use Rattle.moving.proofs.refusal.Tie as tie
 
@@ -83,31 +86,31 @@ module _ (c : tie.Else2) where
   limits-good : good cumulus (t from) ≡ true
   limits-good = from .pre .1 .1
 
--- the reaches, as they come back and as they are made longer
-low-is : (c : tie.After-reaches) → c .reaches .result ≡ listedReaches (reach (limits (from (c .before))) low)
-low-is c = c .reaches .ensures ∙ ap (λ l. listedReaches (reach l low)) (moved-is (there (c .before)))
+-- the reaches, as they come back
+row-is : (c : tie.After-reaches) → c .reaches .result ≡ row (reach (limits (from (c .before)))) cumulus
+row-is c = c .reaches .ensures ∙ ap (λ l. row (reach l) cumulus) (moved-is (there (c .before)))
 
-high-is : (c : tie.After-reaches2) → c .reaches2 .result ≡ listedReaches (reach (limits (from (c .before .before .before))) high)
-high-is c = c .reaches2 .ensures ∙ ap (λ l. listedReaches (reach l high)) (moved-is (there (c .before .before .before)))
-
-module _ (c : tie.After-longer2) where
+-- and as they are made longer
+module _ (c : tie.After-longer) where
   abbrev inside : tie.Else2
-  inside = c .before .before .before .before
+  inside = c .before .before
 
   abbrev origin : tie.Start
   origin = from inside
 
-  longer-low-is : c .before .before .longer .result ≡ listedReaches (moveReach cumulus (i origin) (s origin) (t origin) low)
-  longer-low-is = c .before .before .longer .ensures ∙ longer-listed (reach (limits origin) low) (i origin) (variable-in inside) (low-is (c .before .before .before)) (shift-is origin)
+  abbrev rule : Piece → ℕ → ℕ
+  rule = moveReach cumulus (i origin) (s origin) (t origin)
 
-  longer-high-is : c .longer2 .result ≡ listedReaches (moveReach cumulus (i origin) (s origin) (t origin) high)
-  longer-high-is = c .longer2 .ensures ∙ longer-listed (reach (limits origin) high) (i origin) (variable-in inside) (high-is (c .before)) (shift-is origin)
+  longer-is : c .longer .result ≡ row rule cumulus
+  longer-is =
+      c .longer .ensures
+      ∙ ap₂ (λ l n. row (λ p. longer (i origin) n (reachesOf l p)) cumulus) (row-is (c .before)) (size-is (there inside .before .before .before))
+      ∙ longer-row (reach (limits origin)) (i origin) (natAbs (s origin))
 
 light-is : (c : tie.After-within-cap) → c .within-cap .result ≡ moveLight cumulus (i (origin (c .before))) (s (origin (c .before))) (t (origin (c .before)))
 light-is c =
-    let d = c .before in
-    let o = origin d in
-    c .within-cap .ensures ∙ (λ j. withinCap cumulus (t o) (reachesOf (longer-low-is d j) (longer-high-is d j))) ∙ light-listed (t o) (moveReach cumulus (i o) (s o) (t o))
+    let o = origin (c .before) in
+    c .within-cap .ensures ∙ ap (λ l. withinCap cumulus (t o) (reachesOf l)) (longer-is (c .before)) ∙ light-row (t o) (rule (c .before)) (move-other (t o) (i o) (s o))
 
 magnitude-requires : tie.Need-magnitude-requires
 magnitude-requires c κs = tt
@@ -137,26 +140,13 @@ longer-requires : tie.Need-longer-requires
 longer-requires c κs =
     let d = c .before in
     let o = from d in
-    rw (shift-is o, low-is c) (lengthened (t o) (i o) (s o) (variable-in d) (limits-good d) (limits-in-range d) low)
-
-reaches-requires-2 : tie.Need-reaches-requires-2
-reaches-requires-2 c κs = in-range (c .before .before)
-
-longer-requires-2 : tie.Need-longer-requires-2
-longer-requires-2 c κs =
-    let d = c .before .before .before in
-    let o = from d in
-    rw (shift-is o, high-is c) (lengthened (t o) (i o) (s o) (variable-in d) (limits-good d) (limits-in-range d) high)
+    subst (Lengthened (c .reaches .result)) (sym (size-is (there d .before .before .before)))
+    (rw (row-is c) (lengthened (t o) (i o) (s o) (variable-in d) (limits-good d) (limits-in-range d)))
 
 within-cap-requires : tie.Need-within-cap-requires
 within-cap-requires c κs =
-    let d = inside c in
     let o = origin c in
-    record {
-      whole = o .pre .0;
-      low = subst Reaching (sym (longer-low-is c)) (move-reaching (t o) (i o) (s o) (variable-in d) (limits-good d) (limits-in-range d) low);
-      high = subst Reaching (sym (longer-high-is c)) (move-reaching (t o) (i o) (s o) (variable-in d) (limits-good d) (limits-in-range d) high);
-    }
+    record { whole = o .pre .0; one = λ k h. rw (longer-is c) (row-one (rule c) cumulus (move-one (t o) (i o) (s o)) k h) }
 
 returns-3 : tie.Need-returns-3
 returns-3 c =
@@ -178,8 +168,6 @@ refusal-spec =
     returns-2
     reaches-requires
     longer-requires
-    reaches-requires-2
-    longer-requires-2
     within-cap-requires
     returns-3
     returns-4)

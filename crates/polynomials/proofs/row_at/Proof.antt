@@ -54,7 +54,7 @@ module _ (c : tie.Start Inv-loop μ-loop) where
 
   light : rowWeight highestDegree l r q ≤ cap
   light =
-      N.le-trans (row-light highestDegree l (c .pre .0 .few) r 1 (N.le-refl 1) q (c .pre .1))
+      N.le-trans (row-light highestDegree l r 1 (c .pre .0 .few) (N.le-refl 1) q (c .pre .1))
       (rw (toZ-ofZ (c .fits .x)) (c .pre .0 .light))
 
   product : (p : ℕ) → p < last → SFits w64 (row (p + 1) *ℤ x)

@@ -62,7 +62,7 @@ module _ (c : tie.Start Inv-loop μ-loop) where
   row-ready = record { few = ready .few; light = N.le-trans (weight-mono l (N.le-refl r) (N.le-max-left 1 (natAbs y))) (ready .light) }
 
   light : down nats _*_ (rowWeight highestDegree l r) t highestDegree 0 ≤ cap
-  light = N.le-trans (N.le-of-eq (weight-rows highestDegree l (ready .few) r t highestDegree (N.le-refl highestDegree))) (ready .light)
+  light = N.le-trans (N.le-of-eq (weight-rows highestDegree l r t (ready .few) highestDegree (N.le-refl highestDegree))) (ready .light)
 
   product : (q : ℕ) → q < highestDegree → SFits w64 (rows (q + 1) *ℤ y)
   product = product-fits row _ y t (λ q. row-size highestDegree l x r q (N.le-max-right 1 (natAbs x))) (N.le-max-right 1 (natAbs y)) highestDegree (N.le-max-left 1 (natAbs y)) light

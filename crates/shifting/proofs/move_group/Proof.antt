@@ -17,9 +17,9 @@ use Rattle.polynomials.specs.Binomial.{shiftIn}
 use Rattle.polynomials.specs.Group.{movedNumber, replaced}
 use Rattle.polynomials.specs.declared.Powers.{Powers}
 use Rattle.polynomials.specs.declared.Variable.{Variable}
-use Rattle.polynomials.proofs.Places.{place-powers, powers-more}
+use Rattle.polynomials.specs.Limits.{highestDegree}
+use Rattle.polynomials.proofs.Places.{place-powers, few-powers, powers-more}
 use Rattle.polynomials.proofs.Listed.{listed-more, listed-all}
-use Rattle.polynomials.proofs.PowerRows.{few-powers}
 use Rattle.shifting.proofs.move_group.Statement.{statement}
 use Rattle.shifting.proofs.move_group.Tie as tie
 
@@ -34,7 +34,7 @@ Inv-loop from out₀ which rows w₀ at₀ out w at =
 abbrev μ-loop : tie.MeasureT-loop
 μ-loop from out₀ which rows w₀ at₀ out w at = length from - at
 
-low : (c : tie.In-loop Inv-loop μ-loop) → c .before .loop .w .first + c .before .loop .w .second < 5
+low : (c : tie.In-loop Inv-loop μ-loop) → c .before .loop .w .first + c .before .loop .w .second ≤ highestDegree
 low c =
     few-powers (c .before .loop .w) (c .before .loop .at) (length (c .before .before .args .from .now)) (c .before .before .pre .1 .0 .few) (c .loop-test .taken) (c .before .loop .inv .2)
 

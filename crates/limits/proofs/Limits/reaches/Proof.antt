@@ -1,8 +1,7 @@
--- `limits::Limits::reaches` meets its contract, variable by variable. Assumes nothing.
+-- `limits::Limits::reaches` meets its contract, place by place. Assumes nothing.
 use mathlib.Core.List.{[], _∷_}
 use native.Mathlib.Omega.{arith}
 use Rattle.polynomials.specs.Sum.{listed}
-use Rattle.limits.proofs.Held.{held}
 use Rattle.limits.proofs.Limits.reaches.Statement.{statement}
 use Rattle.limits.proofs.Limits.reaches.Tie as tie
 
@@ -21,6 +20,9 @@ reach-requires-4 c κs = (c .before .before .before .pre, omega arith)
 reach-requires-5 : tie.Need-reach-requires-5
 reach-requires-5 c κs = (c .before .before .before .before .pre, omega arith)
 
+reach-requires-6 : tie.Need-reach-requires-6
+reach-requires-6 c κs = (c .before .before .before .before .before .pre, omega arith)
+
 returns : tie.Need-returns
 unfolding listed
 returns c =
@@ -28,12 +30,17 @@ returns c =
     let xi = eta .before in
     let beta = xi .before in
     let alpha = beta .before in
-    λ i. held (alpha .reach .result) (alpha .reach .ok) (alpha .reach .ensures) i
-    ∷ held (beta .reach2 .result) (beta .reach2 .ok) (beta .reach2 .ensures) i
-    ∷ held (xi .reach3 .result) (xi .reach3 .ok) (xi .reach3 .ensures) i
-    ∷ held (eta .reach4 .result) (eta .reach4 .ok) (eta .reach4 .ensures) i
-    ∷ held (c .reach5 .result) (c .reach5 .ok) (c .reach5 .ensures) i
-    ∷ []
+    let low = alpha .before in
+    λ i. low .reach .ensures i ∷ alpha .reach2 .ensures i ∷ beta .reach3 .ensures i ∷ xi .reach4 .ensures i ∷ eta .reach5 .ensures i ∷ c .reach6 .ensures i ∷ []
 
 pub reaches-spec : {M : Type 1} → statement M
-reaches-spec = tie.close (tie.spec reach-requires reach-requires-2 reach-requires-3 reach-requires-4 reach-requires-5 returns)
+reaches-spec =
+    tie.close
+    (tie.spec
+    reach-requires
+    reach-requires-2
+    reach-requires-3
+    reach-requires-4
+    reach-requires-5
+    reach-requires-6
+    returns)

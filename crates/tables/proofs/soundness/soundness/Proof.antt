@@ -1,20 +1,22 @@
 -- `tables::soundness::soundness` meets its contract: the limits taken from the table tell what the table's tell. Assumes nothing.
-use mathlib.Core.Path.{_≡_, sym, _∙_, ap, subst}
+use mathlib.Core.Path.{_≡_, sym, _∙_, ap}
 use mathlib.Core.Bool.{true}
 use mathlib.Core.List.{List, []}
+use Prim.Native.Nat.{ℕ}
 use native.Mathlib.Omega.{arith}
 use borrow.Author.Tests.{not-true, not-false}
 use lib.IntN.{ℤ}
 use Rattle.layout.specs.Shape.{cumulus, kindsLength}
 use Rattle.polynomials.specs.Order.{below}
 use Rattle.layout.specs.Limits.{allInRange, good}
-use Rattle.layout.specs.Blocks.{low, high}
+use Rattle.layout.specs.Blocks.{Piece}
 use Rattle.layout.specs.Sound.{reach, withinCap, light}
+use Rattle.layout.specs.Reaches.{reachesOf}
 use Rattle.layout.specs.Refusals.{badLimits, tooHeavy}
 use Rattle.layout.proofs.LimitLaws.{good-facts}
+use Rattle.layout.proofs.Reaches.{reach-one, row, row-one}
 use Rattle.layout.proofs.Refused.{first-skip, first-hit}
-use Rattle.weights.specs.Reaches.{reachesOf, Reaching}
-use Rattle.tables.proofs.Taken.{first-nothing, taken, good-taken, range-taken, listedReaches, own-reaching, light-taken}
+use Rattle.tables.proofs.Taken.{first-nothing, taken, good-taken, range-taken, light-taken}
 use Rattle.tables.proofs.soundness.soundness.Statement.{statement}
 use Rattle.tables.proofs.soundness.soundness.Tie as tie
 
@@ -37,20 +39,18 @@ module _ (c : tie.Else1) where
   in-range = ap (allInRange cumulus) (c .before .before .of .ensures) ∙ range-taken t ∙ good-facts cumulus t limits-good .range
 
 -- the reaches, as they come back
-module _ (c : tie.After-reaches2) where
-  abbrev there : tie.Else1
-  there = c .before .before
+module _ (c : tie.After-reaches) where
+  abbrev reached : Piece → ℕ → ℕ
+  reached = reach (taken (t (c .before)))
 
-  low-is : c .before .reaches .result ≡ listedReaches (reach (taken (t there)) low)
-  low-is = c .before .reaches .ensures ∙ ap (λ l. listedReaches (reach l low)) (there .before .before .of .ensures)
+  row-is : c .reaches .result ≡ row reached cumulus
+  row-is = c .reaches .ensures ∙ ap (λ l. row (reach l) cumulus) (c .before .before .before .of .ensures)
 
-  high-is : c .reaches2 .result ≡ listedReaches (reach (taken (t there)) high)
-  high-is = c .reaches2 .ensures ∙ ap (λ l. listedReaches (reach l high)) (there .before .before .of .ensures)
-
-light-is : (c : tie.After-within-cap) → c .within-cap .result ≡ light cumulus (t (there (c .before)))
+light-is : (c : tie.After-within-cap) → c .within-cap .result ≡ light cumulus (t (c .before .before))
 light-is c =
     let d = c .before in
-    c .within-cap .ensures ∙ (λ i. withinCap cumulus (t (there d)) (reachesOf (low-is d i) (high-is d i))) ∙ light-taken (t (there d)) (limits-good (there d))
+    let table = t (d .before) in
+    c .within-cap .ensures ∙ ap (λ l. withinCap cumulus table (reachesOf l)) (row-is d) ∙ light-taken table
 
 of-requires : tie.Need-of-requires
 unfolding kindsLength below
@@ -65,27 +65,22 @@ returns c = sym (first-hit badLimits _ (sym (good-is (c .before)) ∙ not-true _
 reaches-requires : tie.Need-reaches-requires
 reaches-requires c κs = in-range c
 
-reaches-requires-2 : tie.Need-reaches-requires-2
-reaches-requires-2 c κs = in-range (c .before)
-
 within-cap-requires : tie.Need-within-cap-requires
 within-cap-requires c κs =
-    let d = there c in
     record {
-      whole = d .before .before .before .pre;
-      low = subst Reaching (sym (low-is c)) (own-reaching (t d) (limits-good d) low);
-      high = subst Reaching (sym (high-is c)) (own-reaching (t d) (limits-good d) high);
+      whole = c .before .before .before .before .pre;
+      one = λ k h. rw (row-is c) (row-one (reached c) cumulus (reach-one (taken (t (c .before)))) k h);
     }
 
 returns-2 : tie.Need-returns-2
 returns-2 c =
-    sym (first-skip badLimits _ (limits-good (there (c .before .before))) ∙ first-hit tooHeavy [] (sym (light-is (c .before)) ∙ not-true _ (c .if2 .taken)))
+    sym (first-skip badLimits _ (limits-good (c .before .before .before)) ∙ first-hit tooHeavy [] (sym (light-is (c .before)) ∙ not-true _ (c .if2 .taken)))
 
 returns-3 : tie.Need-returns-3
 returns-3 c =
-    sym (first-skip badLimits _ (limits-good (there (c .before .before))) ∙ first-skip tooHeavy [] (sym (light-is (c .before)) ∙ not-false _ (c .if2 .left)) ∙ first-nothing)
+    sym (first-skip badLimits _ (limits-good (c .before .before .before)) ∙ first-skip tooHeavy [] (sym (light-is (c .before)) ∙ not-false _ (c .if2 .left)) ∙ first-nothing)
 
 pub soundness-spec : {M : Type 1} → statement M
 soundness-spec =
     tie.close
-    (tie.spec of-requires good-requires returns reaches-requires reaches-requires-2 within-cap-requires returns-2 returns-3)
+    (tie.spec of-requires good-requires returns reaches-requires within-cap-requires returns-2 returns-3)

@@ -1,2 +1,0 @@
--- Gathering a weight at the first place of a group.
-pub mod Folding

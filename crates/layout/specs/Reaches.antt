@@ -1,0 +1,21 @@
+-- Reaches in a row, as the code hands them on.
+use mathlib.Core.List.{List}
+use Prim.Native.Nat.{ℕ, zero, suc}
+use lib.ListN.{getD}
+use Rattle.layout.specs.Shape.{Shape}
+use Rattle.layout.specs.Blocks.{Piece, low, high}
+
+-- two of variable 0, and one of each other
+abbrev pub reachCount : Shape → ℕ
+reachCount S = suc (S .variables)
+
+-- that of variable 0 in the low piece, then those of every variable in the high piece
+abbrev pub reachAt : (Piece → ℕ → ℕ) → ℕ → ℕ
+reachAt r zero = r low 0
+reachAt r (suc i) = r high i
+
+-- the reaches that a row holds: beside variable 0 the pieces have the same
+abbrev pub reachesOf : List ℕ → Piece → ℕ → ℕ
+reachesOf l low zero = getD l 0 0
+reachesOf l low (suc i) = getD l (suc (suc i)) 0
+reachesOf l high i = getD l (suc i) 0

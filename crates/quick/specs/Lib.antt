@@ -1,2 +1,0 @@
--- The quick test of all weights at once.
-pub mod Joined
