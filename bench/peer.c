@@ -1,118 +1,203 @@
-/* The operations as a C programmer would write them: plain loops, the weights in unsigned __int128. */
+/* The operations in strong plain C: the same checks, refusals and answers as the proved code, on every input. Weights are exact
+ * and are worked out for every table, whatever its numbers. Readings within the limits of a sound table, and moves within the
+ * weight rule, keep every sum and product on the way within 64 bits, so that values and moved numbers need no checks. */
 #include "peer.h"
 #include <math.h>
 #include <string.h>
 
-enum { LIMITS = 11, BLOCK = 50, PITCH = 10, SIDE = 15, TABLE = 311 };
+enum { LIMITS = 11, BLOCK = 50, BLOCKS = 6, TABLE = 311, COEFFICIENTS = 6, VARIABLES = 5, FARTHEST = 2000 };
+enum { ALPHA, BETA, XI, ETA, ZETA };
+enum { LOW = 0, HIGH = 10, BETA_XI = 20, BETA_ZETA = 35 }; /* where the groups of a block start */
+enum { PITCH = 3, SIDE = 4 };                              /* their degrees */
 
-typedef unsigned __int128 u128;
-static const u128 CAP = (u128)9000000000000000000u;
+static const uint64_t CAP = 9000000000000000000;
+static const int START[4] = {LOW, HIGH, BETA_XI, BETA_ZETA}, DEGREE[4] = {PITCH, PITCH, SIDE, SIDE};
+static const int FIRST[4] = {ALPHA, ALPHA, BETA, BETA}, SECOND[4] = {ETA, ETA, XI, ZETA};
 
-static const unsigned char FIRST[15] = {0, 1, 0, 2, 1, 0, 3, 2, 1, 0, 4, 3, 2, 1, 0};
-static const unsigned char SECOND[15] = {0, 0, 1, 0, 1, 2, 0, 1, 2, 3, 0, 1, 2, 3, 4};
-static const int64_t ROWS[5][5] = {{1}, {1, 1}, {1, 2, 1}, {1, 3, 3, 1}, {1, 4, 6, 4, 1}};
+/* Groups are small and have one of two degrees: with these the compiler makes straight code for each of them. Clang is left to
+ * its own judgement, since it takes more instructions for a read when told to unroll. */
+#define INLINE static inline __attribute__((always_inline))
+#ifdef __clang__
+#define UNROLL
+#else
+#define UNROLL _Pragma("GCC unroll 16")
+#endif
 
-/* to the nearest whole number, half to even; far floats stay far */
-static double nearest(double x) { return fabs(x) < 0x1p51 ? x + 0x1.8p52 - 0x1.8p52 : x; }
-static uint64_t magnitude(int64_t x) { return x < 0 ? -(uint64_t)x : (uint64_t)x; }
-static int lowest(int v) { return v ? 2 * v + 1 : 0; }
-static int highest(int v) { return 2 * v + 2; }
+/* The place in its group of the term of total degree n with the power q of the second variable. */
+INLINE int place(int n, int q) { return n * (n + 1) / 2 + q; }
+INLINE int lowest(int v) { return v ? 2 * v + 1 : 0; }
+INLINE int highest(int v) { return 2 * v + 2; }
+INLINE uint64_t magnitude(int64_t x) { return x < 0 ? -(uint64_t)x : (uint64_t)x; }
 
-static int in_range(const int64_t *t) {
-    for (int k = 0; k < LIMITS; k++)
-        if (t[k] < -2000 || t[k] > 2000) return 0;
+/* The reaches of the five variables, alpha's for the low piece; and alpha's for the high piece. */
+typedef struct {
+    uint64_t of[VARIABLES], high;
+} reaches;
+
+/* Gives whether the limits are in order and in range. They are in range exactly if their reach is. */
+INLINE int reach(int64_t low, int64_t high, uint64_t *r) {
+    uint64_t a = magnitude(low), b = magnitude(high);
+    *r = a > b ? a : b;
+    if (*r == 0) *r = 1;
+    return low <= high && *r <= FARTHEST;
+}
+
+INLINE int good(const int64_t *t, reaches *r) {
+    if (!reach(t[0], t[1], &r->of[ALPHA]) || !reach(t[1] + 1, t[2], &r->high)) return 0;
+    UNROLL for (int v = BETA; v <= ZETA; v++)
+        if (!reach(t[lowest(v)], t[highest(v)], &r->of[v])) return 0;
     return 1;
 }
 
-static int good(const int64_t *t) {
-    if (!in_range(t) || t[0] > t[1] || t[1] >= t[2]) return 0;
-    for (int v = 1; v < 5; v++)
-        if (t[lowest(v)] > t[highest(v)]) return 0;
-    return 1;
+/* The products of the reaches for the terms of a group, each made from one of a degree less. */
+INLINE void multiply(uint64_t *f, int d, uint64_t r, uint64_t s) {
+    f[0] = 1;
+    UNROLL for (int n = 1; n <= d; n++) {
+        UNROLL for (int q = 0; q < n; q++) f[place(n, q)] = f[place(n - 1, q)] * r;
+        f[place(n, n)] = f[place(n - 1, n - 1)] * s;
+    }
 }
 
-static uint64_t span(int64_t a, int64_t b) {
-    uint64_t r = 1;
-    if (magnitude(a) > r) r = magnitude(a);
-    if (magnitude(b) > r) r = magnitude(b);
-    return r;
+/* A sum in 128 bits, in halves of which one is signed: of a plain unsigned __int128 gcc would work out all terms before it adds
+ * the first, and the registers would not hold them. */
+typedef struct {
+    uint64_t low;
+    int64_t high;
+} wide;
+
+INLINE wide plus(wide w, unsigned __int128 x) {
+    int carry = __builtin_add_overflow(w.low, (uint64_t)x, &w.low);
+    w.high += (int64_t)(x >> 64) + carry;
+    return w;
 }
 
-static void reaches(const int64_t *t, int piece, uint64_t *r) {
-    r[0] = piece ? span(t[1] + 1, t[2]) : span(t[0], t[1]);
-    for (int v = 1; v < 5; v++) r[v] = span(t[lowest(v)], t[highest(v)]);
+INLINE wide weigh(wide w, const int64_t *g, const uint64_t *f, int d) {
+    w = plus(w, magnitude(g[0]));
+    UNROLL for (int k = 1; k < place(d + 1, 0); k++) w = plus(w, (unsigned __int128)magnitude(g[k]) * f[k]);
+    return w;
 }
 
-static u128 weight(const int64_t *g, int count, uint64_t r, uint64_t s) {
-    uint64_t rs[5] = {1}, ss[5] = {1};
-    for (int k = 1; k < 5; k++) rs[k] = rs[k - 1] * r, ss[k] = ss[k - 1] * s;
-    u128 sum = 0;
-    for (int k = 0; k < count; k++) sum += (u128)magnitude(g[k]) * (rs[FIRST[k]] * ss[SECOND[k]]);
-    return sum;
-}
+INLINE int past(wide w) { return w.high || w.low > CAP; }
 
-static int light(const int64_t *t, uint64_t r[2][5]) {
-    for (int b = 0; b < 6; b++)
-        for (int p = 0; p < 2; p++) {
-            const int64_t *g = t + LIMITS + BLOCK * b;
-            if (weight(g + PITCH * p, PITCH, r[p][0], r[p][3]) + weight(g + 20, SIDE, r[p][1], r[p][2]) +
-                    weight(g + 35, SIDE, r[p][1], r[p][4]) > CAP)
-                return 0;
-        }
+/* Whether all twelve weights are at most the cap. The side groups of a block are weighed once for both pieces. Not inlined: the
+ * sums have the registers to themselves. */
+static __attribute__((noinline)) int light(const int64_t *t, const reaches *r) {
+    uint64_t f[BLOCK];
+    multiply(f + LOW, PITCH, r->of[ALPHA], r->of[ETA]);
+    multiply(f + HIGH, PITCH, r->high, r->of[ETA]);
+    multiply(f + BETA_XI, SIDE, r->of[BETA], r->of[XI]);
+    multiply(f + BETA_ZETA, SIDE, r->of[BETA], r->of[ZETA]);
+    for (const int64_t *g = t + LIMITS; g < t + TABLE; g += BLOCK) {
+        wide side = weigh((wide){0}, g + BETA_XI, f + BETA_XI, SIDE);
+        side = weigh(side, g + BETA_ZETA, f + BETA_ZETA, SIDE);
+        if (past(weigh(side, g + LOW, f + LOW, PITCH)) || past(weigh(side, g + HIGH, f + HIGH, PITCH))) return 0;
+    }
     return 1;
 }
 
 static uint64_t unsound(const int64_t *t) {
-    uint64_t r[2][5];
-    if (!good(t)) return 3;
-    reaches(t, 0, r[0]);
-    reaches(t, 1, r[1]);
-    return light(t, r) ? 0 : 4;
+    reaches r;
+    if (!good(t, &r)) return 3;
+    return light(t, &r) ? 0 : 4;
 }
 
-static int64_t value(const int64_t *g, int count, int64_t x, int64_t y) {
-    int64_t xs[5] = {1}, ys[5] = {1}, sum = 0;
-    for (int k = 1; k < 5; k++) xs[k] = xs[k - 1] * x, ys[k] = ys[k - 1] * y;
-    for (int k = 0; k < count; k++) sum += g[k] * (xs[FIRST[k]] * ys[SECOND[k]]);
+/* A state by value: behind a pointer it would have to be fetched again after each number that is written. */
+typedef struct {
+    int64_t of[VARIABLES];
+} state;
+
+/* A group from the highest power down, rows in x inside and y outside. The terms with fewer than `from` powers of y are left out,
+ * and the sum is divided by y to that power. */
+INLINE int64_t value(const int64_t *g, int d, int from, int64_t x, int64_t y) {
+    int64_t sum = 0;
+    UNROLL for (int q = d; q >= from; q--) {
+        int64_t row = 0;
+        UNROLL for (int n = d; n >= q; n--) row = row * x + g[place(n, q)];
+        sum = sum * y + row;
+    }
     return sum;
 }
 
-static void values(const int64_t *t, const int64_t *x, int64_t *out) {
-    int p = x[0] > t[1];
-    for (int b = 0; b < 6; b++) {
-        const int64_t *g = t + LIMITS + BLOCK * b;
-        out[b] = value(g + PITCH * p, PITCH, x[0], x[3]) + value(g + 20, SIDE, x[1], x[2]) + value(g + 35, SIDE, x[1], x[4]);
+/* The terms of both side groups that have powers of beta alone. */
+INLINE int64_t beta_alone(const int64_t *g, int64_t beta) {
+    int64_t sum = 0;
+    UNROLL for (int n = SIDE; n >= 0; n--) sum = sum * beta + g[BETA_XI + place(n, 0)] + g[BETA_ZETA + place(n, 0)];
+    return sum;
+}
+
+INLINE void values(const int64_t *t, state x, int64_t *out) {
+    const int64_t *g = t + LIMITS, *pitch = g + (x.of[ALPHA] > t[1] ? HIGH : LOW);
+    for (int b = 0; b < BLOCKS; b++, g += BLOCK, pitch += BLOCK) {
+        int64_t sum = value(pitch, PITCH, 0, x.of[ALPHA], x.of[ETA]);
+        sum += beta_alone(g, x.of[BETA]);
+        sum += value(g + BETA_XI, SIDE, 1, x.of[BETA], x.of[XI]) * x.of[XI];
+        sum += value(g + BETA_ZETA, SIDE, 1, x.of[BETA], x.of[ZETA]) * x.of[ZETA];
+        out[b] = sum;
     }
 }
 
-uint64_t peer_sound_read(const int64_t *t, const int64_t *x, int64_t *out) {
-    for (int v = 0; v < 5; v++)
-        if (x[v] < t[lowest(v)] || x[v] > t[highest(v)]) return 11 + v;
-    values(t, x, out);
+INLINE uint64_t outside(const int64_t *t, state x) {
+    UNROLL for (int v = 0; v < VARIABLES; v++)
+        if (x.of[v] < t[lowest(v)] || x.of[v] > t[highest(v)]) return 11 + v;
     return 0;
 }
 
+INLINE uint64_t read_sound(const int64_t *t, state x, int64_t *out) {
+    uint64_t no = outside(t, x);
+    if (!no) values(t, x, out);
+    return no;
+}
+
+uint64_t peer_sound_read(const int64_t *t, const int64_t *x, int64_t *out) {
+    return read_sound(t, (state){{x[0], x[1], x[2], x[3], x[4]}}, out);
+}
+
 uint64_t peer_read(const int64_t *t, size_t n, int64_t a, int64_t be, int64_t xi, int64_t e, int64_t z, int64_t *out, size_t m) {
-    int64_t x[5] = {a, be, xi, e, z};
     if (n != TABLE) return 1;
-    if (m != 6) return 2;
+    if (m != COEFFICIENTS) return 2;
     uint64_t no = unsound(t);
-    return no ? no : peer_sound_read(t, x, out);
+    return no ? no : read_sound(t, (state){{a, be, xi, e, z}}, out);
+}
+
+/* The nearest whole number, a half to even, of a float within 2^51 of zero; of any other, a NaN and the infinities included, a
+ * number that is outside all limits. Floats near 1.5 * 2^52 are 1 apart, and so are their bits. */
+INLINE int64_t nearest(double f) {
+    static const double FAR = 0x1.8p52;
+    double sum = f + FAR;
+    int64_t there, zero;
+    memcpy(&there, &sum, sizeof there);
+    memcpy(&zero, &FAR, sizeof zero);
+    return there - zero;
+}
+
+clochecloak_answer peer_read_floats(const int64_t *t, size_t n, double a, double be, double xi, double e, double z) {
+    double f[VARIABLES] = {a, be, xi, e, z};
+    int64_t six[COEFFICIENTS];
+    if (n != TABLE) return (clochecloak_answer){.number = 1};
+    uint64_t no = unsound(t);
+    if (no) return (clochecloak_answer){.number = no};
+    no = read_sound(t, (state){{nearest(a), nearest(be), nearest(xi), nearest(e), nearest(z)}}, six);
+    if (no) {
+        for (int v = 0; v < VARIABLES; v++)
+            if (!isfinite(f[v])) return (clochecloak_answer){.number = 21 + v};
+        return (clochecloak_answer){.number = no, .reading = f[no - 11]};
+    }
+    return (clochecloak_answer){0, 0, six[0] / 1e17, six[1] / 1e17, six[2] / 1e17, six[3] / 1e17, six[4] / 1e17, six[5] / 1e17};
 }
 
 /* Fixed point in units of 10^-9: the numbers, filled once from the published table, which has them of degree n times 1000^(4 - n)
  * in units of 10^-17. Halves go away from zero; dividing magnitudes spares the compiler the sign. */
-static int64_t fine[6][BLOCK];
+static int64_t fine[BLOCKS][BLOCK];
 
 void peer_prepare(const int64_t *t) {
-    static const int START[4] = {0, 10, 20, 35}, COUNT[4] = {10, 10, 15, 15};
     static const int64_t OVER[5] = {100000000, 100000, 100, 1, 1}, TIMES[5] = {1, 1, 1, 10, 10000};
-    for (int b = 0; b < 6; b++)
-        for (int g = 0; g < 4; g++)
-            for (int k = 0; k < COUNT[g]; k++) {
-                int n = FIRST[k] + SECOND[k], at = START[g] + k;
-                fine[b][at] = t[LIMITS + BLOCK * b + at] / OVER[n] * TIMES[n];
-            }
+    for (int b = 0; b < BLOCKS; b++)
+        for (int k = 0; k < 4; k++)
+            for (int n = 0; n <= DEGREE[k]; n++)
+                for (int q = 0; q <= n; q++) {
+                    int at = START[k] + place(n, q);
+                    fine[b][at] = t[LIMITS + BLOCK * b + at] / OVER[n] * TIMES[n];
+                }
 }
 
 static int64_t times(int64_t a, int64_t r) {
@@ -120,85 +205,83 @@ static int64_t times(int64_t a, int64_t r) {
     return p < 0 ? -(int64_t)((500000 - (uint64_t)p) / 1000000) : (int64_t)(((uint64_t)p + 500000) / 1000000);
 }
 
-static int64_t downward(const int64_t *g, int d, int64_t x, int64_t y) {
+INLINE int64_t downward(const int64_t *g, int d, int64_t x, int64_t y) {
     int64_t sum = 0;
-    for (int q = d; q >= 0; q--) {
-        int64_t row = g[d * (d + 1) / 2 + q];
-        for (int n = d - 1; n >= q; n--) row = times(row, x) + g[n * (n + 1) / 2 + q];
+    UNROLL for (int q = d; q >= 0; q--) {
+        int64_t row = g[place(d, q)];
+        UNROLL for (int n = d - 1; n >= q; n--) row = times(row, x) + g[place(n, q)];
         sum = q == d ? row : times(sum, y) + row;
     }
     return sum;
 }
 
 uint64_t peer_read_microradians(int64_t a, int64_t be, int64_t xi, int64_t e, int64_t z, int64_t *out, size_t m) {
-    static const int64_t MOST[5] = {1000000, 500000, 200000, 400000, 500000};
-    int64_t x[5] = {a, be, xi, e, z};
-    if (m != 6) return 2;
-    for (int v = 0; v < 5; v++)
+    static const int64_t MOST[VARIABLES] = {1000000, 500000, 200000, 400000, 500000};
+    int64_t x[VARIABLES] = {a, be, xi, e, z};
+    if (m != COEFFICIENTS) return 2;
+    for (int v = 0; v < VARIABLES; v++)
         if (x[v] < (v ? -MOST[v] : -150000) || x[v] > MOST[v]) return 11 + v;
-    int p = a > 313269;
-    for (int b = 0; b < 6; b++)
-        out[b] = downward(fine[b] + PITCH * p, 3, a, e) + downward(fine[b] + 20, 4, be, xi) + downward(fine[b] + 35, 4, be, z);
+    const int pitch = a > 313269 ? HIGH : LOW;
+    for (int b = 0; b < BLOCKS; b++)
+        out[b] = downward(fine[b] + pitch, PITCH, a, e) + downward(fine[b] + BETA_XI, SIDE, be, xi) +
+                 downward(fine[b] + BETA_ZETA, SIDE, be, z);
     return 0;
 }
 
-clochecloak_answer peer_read_floats(const int64_t *t, size_t n, double a, double be, double xi, double e, double z) {
-    clochecloak_answer r = {0};
-    double f[5] = {a, be, xi, e, z};
-    int64_t x[5], out[6];
-    if (n != TABLE) { r.number = 1; return r; }
-    if ((r.number = unsound(t))) return r;
-    for (int v = 0; v < 5; v++)
-        if (!isfinite(f[v])) { r.number = 21 + v; return r; }
-    for (int v = 0; v < 5; v++) {
-        double w = nearest(f[v]);
-        if (w < t[lowest(v)] || w > t[highest(v)]) { r.number = 11 + v; r.reading = f[v]; return r; }
-        x[v] = (int64_t)w;
-    }
-    values(t, x, out);
-    r.x = out[0] / 1e17, r.y = out[1] / 1e17, r.z = out[2] / 1e17;
-    r.l = out[3] / 1e17, r.m = out[4] / 1e17, r.n = out[5] / 1e17;
-    return r;
+/* The reaches of the weight rule. Gives whether the moved limits stay in range. */
+INLINE int lengthen(const int64_t *t, int v, int64_t s, reaches *r) {
+    if (magnitude(s) > 2 * FARTHEST) return 0;
+    if (!reach(t[lowest(v)] - s, t[v ? highest(v) : 1] - s, &r->of[v])) return 0;
+    r->of[v] += magnitude(s);
+    if (v != ALPHA) return 1;
+    if (!reach(t[1] + 1 - s, t[2] - s, &r->high)) return 0;
+    r->high += magnitude(s);
+    return 1;
 }
 
-static void move_group(const int64_t *g, int64_t *out, int count, int second, int64_t s) {
-    int64_t ss[5] = {1};
-    for (int k = 1; k < 5; k++) ss[k] = ss[k - 1] * s;
-    memset(out, 0, count * sizeof *out);
-    for (int k = 0; k < count; k++) {
-        int p = FIRST[k], q = SECOND[k], n = second ? q : p;
-        for (int j = 0; j <= n; j++) {
-            int d = second ? p + j : j + q, at = d * (d + 1) / 2 + (second ? j : q);
-            out[at] += g[k] * ss[n - j] * ROWS[n][j];
-        }
+/* A chain has the numbers of a group that differ only in the power of the moved variable, which is the first or the second. */
+INLINE void move_group(const int64_t *restrict g, int64_t *restrict out, int d, int second, int64_t s) {
+    UNROLL for (int other = 0; other <= d; other++) {
+        int64_t c[SIDE + 1];
+        int m = d - other;
+        UNROLL for (int k = 0; k <= m; k++) c[k] = g[place(other + k, second ? k : other)];
+        UNROLL for (int i = 0; i < m; i++)
+            UNROLL for (int k = m - 1; k >= i; k--) c[k] += s * c[k + 1];
+        UNROLL for (int k = 0; k <= m; k++) out[place(other + k, second ? k : other)] = c[k];
     }
 }
 
+INLINE void copy_group(const int64_t *restrict g, int64_t *restrict out, int d) {
+    UNROLL for (int k = 0; k < place(d + 1, 0); k++) out[k] = g[k];
+}
+
+INLINE void move_table(const int64_t *restrict t, int64_t *restrict out, int v, int64_t s) {
+    UNROLL for (int k = 0; k < LIMITS; k++) out[k] = k < lowest(v) || k > highest(v) ? t[k] : t[k] - s;
+    for (int b = LIMITS; b < TABLE; b += BLOCK)
+        UNROLL for (int k = 0; k < 4; k++)
+            if (v != FIRST[k] && v != SECOND[k]) copy_group(t + b + START[k], out + b + START[k], DEGREE[k]);
+    for (int b = LIMITS; b < TABLE; b += BLOCK)
+        UNROLL for (int k = 0; k < 4; k++)
+            if (v == FIRST[k] || v == SECOND[k])
+                move_group(t + b + START[k], out + b + START[k], DEGREE[k], v == SECOND[k], s);
+}
+
+/* A reach with the size of the shift is never below the old reach, so a table that the weight rule lets through is sound. Its
+ * own weights decide only which refusal another one gets. */
 uint64_t peer_move(const int64_t *t, size_t n, size_t v, int64_t s, int64_t *out, size_t m) {
-    static const int U[4] = {0, 0, 1, 1}, V[4] = {3, 3, 2, 4}, START[4] = {0, 10, 20, 35}, COUNT[4] = {10, 10, 15, 15};
-    int64_t l[LIMITS];
-    uint64_t r[2][5];
+    reaches r;
     if (n != TABLE) return 1;
     if (m != TABLE) return 2;
-    if (v > 4) return 5;
-    uint64_t no = unsound(t);
-    if (no) return no;
-    if (s < -4000 || s > 4000) return 6;
-    memcpy(l, t, sizeof l);
-    for (int k = lowest(v); k <= highest(v); k++) l[k] -= s;
-    if (!in_range(l)) return 6;
-    reaches(l, 0, r[0]);
-    reaches(l, 1, r[1]);
-    r[0][v] += magnitude(s), r[1][v] += magnitude(s);
-    if (!light(t, r)) return 7;
-    memcpy(out, l, sizeof l);
-    for (int b = 0; b < 6; b++)
-        for (int g = 0; g < 4; g++) {
-            const int64_t *from = t + LIMITS + BLOCK * b + START[g];
-            int64_t *to = out + LIMITS + BLOCK * b + START[g];
-            if (U[g] == (int)v) move_group(from, to, COUNT[g], 0, s);
-            else if (V[g] == (int)v) move_group(from, to, COUNT[g], 1, s);
-            else memcpy(to, from, COUNT[g] * sizeof *to);
-        }
+    if (v > ZETA) return 5;
+    if (!good(t, &r)) return 3;
+    if (!lengthen(t, v, s, &r)) return unsound(t) ? 4 : 6;
+    if (!light(t, &r)) return unsound(t) ? 4 : 7;
+    switch (v) { /* so that each copy of the loop knows its variable */
+        case ALPHA: move_table(t, out, ALPHA, s); break;
+        case BETA: move_table(t, out, BETA, s); break;
+        case XI: move_table(t, out, XI, s); break;
+        case ETA: move_table(t, out, ETA, s); break;
+        default: move_table(t, out, ZETA, s);
+    }
     return 0;
 }

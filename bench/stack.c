@@ -1,46 +1,69 @@
-/* How many bytes of the stack a read takes, with its arguments and return address: it runs on a stack of its own that was filled
- * with one byte, and the lowest changed place shows how deep it went. clochecloak_read reads the published table, and one that is
- * sound but too near the cap for the quick test, so that both ways through the weight check are met; the read in microradians
- * reads in both pieces. */
+/* How many bytes of the stack a read takes, with its arguments and return address (and, with floats, its answer): it runs on a
+ * stack of its own that was filled with one byte, and the lowest changed place shows how deep it went. The deepest counts of
+ * three tables, one sound, one sound and near the cap, one refused for its weight, each read in both pieces. Fails where the read
+ * in milliradians passes the bytes that are allowed: stack [ALLOWED]. */
 #include "clochecloak.h"
 #include <stdio.h>
+#include <stdlib.h>
 #include <string.h>
 #include <ucontext.h>
 
-enum { SPACE = 1 << 20, FILL = 0xa5 };
+enum { SPACE = 1 << 20, TABLES = 3 };
 
 static unsigned char stack[SPACE], *frame;
 static ucontext_t here, there;
-static int64_t table[CLOCHECLOAK_TABLE], six[6];
+static int64_t tables[TABLES][CLOCHECLOAK_TABLE], *table, alpha, six[6];
+static clochecloak_answer floats;
 
-static void reads(void) {
+/* One call each: a caller of several would keep things of its own on the stack between them. */
+static void read_once(void) {
     frame = __builtin_frame_address(0);
-    clochecloak_read(table, CLOCHECLOAK_TABLE, 100, 20, -30, 40, -50, six, CLOCHECLOAK_COEFFICIENTS);
-    table[11] = 4000000000000000000, table[61] = 5000000000000000000;
-    clochecloak_read(table, CLOCHECLOAK_TABLE, 100, 20, -30, 40, -50, six, CLOCHECLOAK_COEFFICIENTS);
+    clochecloak_read(table, CLOCHECLOAK_TABLE, alpha, 20, -30, 40, -50, six, CLOCHECLOAK_COEFFICIENTS);
 }
 
-static void reads_microradians(void) {
+static void read_floats_once(void) {
     frame = __builtin_frame_address(0);
-    clochecloak_read_microradians(100400, 20500, -30000, 40000, -50000, six, CLOCHECLOAK_COEFFICIENTS);
-    clochecloak_read_microradians(900400, 20500, -30000, 40000, -50000, six, CLOCHECLOAK_COEFFICIENTS);
+    floats = clochecloak_read_floats(table, CLOCHECLOAK_TABLE, (double)alpha, 20.5, -30, 40, -50);
 }
 
-static ptrdiff_t depth(void (*calls)(void)) {
-    memset(stack, FILL, SPACE);
+static void read_microradians_once(void) {
+    frame = __builtin_frame_address(0);
+    clochecloak_read_microradians(alpha * 1000, 20500, -30000, 40000, -50000, six, CLOCHECLOAK_COEFFICIENTS);
+}
+
+static ptrdiff_t depth_over(unsigned char fill, void (*call)(void)) {
+    memset(stack, fill, SPACE);
     getcontext(&there);
     there.uc_stack.ss_sp = stack;
     there.uc_stack.ss_size = SPACE;
     there.uc_link = &here;
-    makecontext(&there, calls, 0);
+    makecontext(&there, call, 0);
     swapcontext(&here, &there);
     unsigned char *lowest = stack;
-    while (*lowest == FILL) lowest++;
+    while (*lowest == fill) lowest++;
     return frame - lowest;
 }
 
-int main(void) {
-    clochecloak_publish(table, CLOCHECLOAK_TABLE);
-    printf("Stack of a read: %td bytes; in microradians: %td bytes.\n", depth(reads), depth(reads_microradians));
-    return 0;
+/* Over two fillings, since a byte may be written as it was. */
+static ptrdiff_t depth(void (*call)(void)) {
+    ptrdiff_t deepest = 0;
+    for (int k = 0; k < 4 * TABLES; k++) {
+        table = tables[k / 4], alpha = k & 1 ? 900 : 100;
+        ptrdiff_t d = depth_over(k & 2 ? 0xa5 : 0x5a, call);
+        if (d > deepest) deepest = d;
+    }
+    return deepest;
+}
+
+int main(int argc, char **argv) {
+    for (int k = 0; k < TABLES; k++) clochecloak_publish(tables[k], CLOCHECLOAK_TABLE);
+    tables[1][11] = 4000000000000000000, tables[1][61] = 5000000000000000000;
+    tables[2][261] = INT64_MAX; /* in the last block, so that all others are weighed before */
+    ptrdiff_t read = depth(read_once);
+    printf("Stack of a read: %td bytes; with floats: %td bytes; in microradians: %td bytes.\n", read, depth(read_floats_once),
+           depth(read_microradians_once));
+    if (argc < 2 || read <= atol(argv[1])) return 0;
+    fflush(stdout);
+    fprintf(stderr, "bench/stack: a read takes %td bytes of stack, and README.md promises at most %s\n", read, argv[1]);
+    return 1;
 }

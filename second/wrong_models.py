@@ -5,6 +5,7 @@ look right come first.
 """
 
 from fractions import Fraction
+from functools import lru_cache
 from math import floor
 
 import desk
@@ -14,10 +15,10 @@ import tables
 from door import POSITIVE_ZERO, SIGN_BIT
 from draws import I64_MIN, MASK, signed
 from model import (
-    ALPHA, BETA, BLOCK_COUNT, BLOCK_LENGTH, ETA, FIRST_BLOCK, HIGH_GROUP, LOW_GROUP, PUBLISHED_LIMITS, PUBLISHED_TABLE, TABLE_LENGTH,
-    XI_GROUP, ZETA_GROUP,
+    ALPHA, BETA, BLOCK_COUNT, BLOCK_LENGTH, ETA, FIRST_BLOCK, GROUPS, HIGH_GROUP, LOW_GROUP, PUBLISHED_LIMITS, PUBLISHED_TABLE,
+    TABLE_LENGTH, XI_GROUP, ZETA_GROUP,
 )
-from tables import LOWEST, HIGHEST, READING_OUTSIDE
+from tables import LOWEST, HIGHEST, PIECES, READING_OUTSIDE, SIDE_GROUPS
 
 # The right functions, for wrong ones that differ from them in one respect.
 right_is_finite = door.is_finite
@@ -27,6 +28,7 @@ right_moved_groups = tables.moved_groups
 right_moved_limits = tables.moved_limits
 right_moved_table = tables.moved_table
 right_power_moved = tables.power_moved
+right_products = tables.products
 right_answer_bits = door.answer_bits
 right_reaches = tables.reaches
 right_publish = tables.publish
@@ -178,12 +180,51 @@ def wrapped_weights(table):
     return [signed(weight) for weight in right_weights(table)]
 
 
+def sides_forgotten_in(piece):
+    """The weights of one piece without the side groups."""
+    def weights(table):
+        bare = list(table)
+        for parts in tables.PARTS:
+            for group in SIDE_GROUPS:
+                bare[parts[group]] = [0] * len(GROUPS[group].powers)
+        return [weight for at, (whole, own) in enumerate(zip(right_weights(table), right_weights(tuple(bare))))
+                for weight in [own if at // BLOCK_COUNT == piece else whole]]
+    return weights
+
+
+def weighed_by(products):
+    """The weights with other products of the reaches."""
+    def weight(numbers, group, five):
+        factors = products(group, five[GROUPS[group].first], five[GROUPS[group].second])
+        return sum(abs(number) * factor for number, factor in zip(numbers, factors))
+
+    def weights(table):
+        radii = [tables.reaches(tables.limits_of(table), piece) for piece in PIECES]
+        return [sum(weight(table[parts[group]], group, radii[piece]) for group in (piece,) + SIDE_GROUPS)
+                for piece in PIECES for parts in tables.PARTS]
+    return weights
+
+
+def rows_and_columns_exchanged(group, first, second):
+    return right_products(group, second, first)
+
+
+def first_row_left_out(group, first, second):
+    """Nothing for the numbers that stand beside no power of the second variable."""
+    return [product if q else 0 for product, (_, q) in zip(right_products(group, first, second), GROUPS[group].powers)]
+
+
+def last_row_left_out(group, first, second):
+    """Nothing for the number that stands beside the highest power of the second variable."""
+    return right_products(group, first, second)[:-1] + [0]
+
+
 def last_block_not_weighed(table):
     return right_weights(table[:FIRST_BLOCK + BLOCK_LENGTH * (BLOCK_COUNT - 1)])
 
 
 def blocks_weighed_together(table):
-    """A quick test taken for the whole: the largest magnitude of each place, over all blocks."""
+    """The largest magnitude of each place, over all blocks, taken for every block's."""
     largest = [max(abs(number) for number in table[place::BLOCK_LENGTH]) for place in range(FIRST_BLOCK, FIRST_BLOCK + BLOCK_LENGTH)]
     return right_weights(list(table[:FIRST_BLOCK]) + largest * BLOCK_COUNT)
 
@@ -445,6 +486,14 @@ MODELS = (
     Wrong("the cap one higher", "Weights at the cap", "read", in_tables("WEIGHT_CAP", tables.WEIGHT_CAP + 1)),
     Wrong("the cap one lower", "Weights at the cap", "read", in_tables("WEIGHT_CAP", tables.WEIGHT_CAP - 1)),
     Wrong("the high piece's reach from the cut", "Edges of the reach", "read", in_tables("reaches", high_reach_from_cut)),
+    Wrong("the side groups forgotten in the low piece", "Weights at the cap", "read",
+          in_tables("weights", sides_forgotten_in(LOW_GROUP))),
+    Wrong("the side groups forgotten in the high piece", "Weights at the cap", "read",
+          in_tables("weights", sides_forgotten_in(HIGH_GROUP))),
+    Wrong("the two reaches of a group exchanged", "Weights at the cap", "read",
+          in_tables("weights", weighed_by(rows_and_columns_exchanged))),
+    Wrong("the first row of a group not weighed", "Weights at the cap", "read", in_tables("weights", weighed_by(first_row_left_out))),
+    Wrong("the last row of a group not weighed", "Weights at the cap", "read", in_tables("weights", weighed_by(last_row_left_out))),
     Wrong("the last block not weighed", "The smallest number at each place", "read", in_tables("weights", last_block_not_weighed)),
     Wrong("all blocks weighed as one", "A number in each block", "read", in_tables("weights", blocks_weighed_together)),
     Wrong("weights modulo 2^64", "Random tables", "read", in_tables("weights", wrapped_weights)),
@@ -460,6 +509,10 @@ MODELS = (
     Wrong("a reading cut to 32 bits", "Readings at the ends of 64 bits", "read",
           in_tables("read", lambda table, readings, output: right_read(table, [low_half(reading) for reading in readings], output))),
     Wrong("the rudder group not read", "Single numbers", "read", in_tables("SIDE_GROUPS", (XI_GROUP,))),
+    Wrong("the two readings of a group exchanged", "Single numbers", "read",
+          in_tables("products", lru_cache(rows_and_columns_exchanged))),
+    Wrong("the first row of a group not read", "Single numbers", "read", in_tables("products", lru_cache(first_row_left_out))),
+    Wrong("the last row of a group not read", "Single numbers", "read", in_tables("products", lru_cache(last_row_left_out))),
     # lengths
     Wrong("a longer table taken", "Wrong lengths of reads", "read", with_test(tables.WRONG_TABLE_LENGTH, lambda table: len(table) < 311)),
     Wrong("a table without its last number taken", "Wrong lengths of reads", "read",

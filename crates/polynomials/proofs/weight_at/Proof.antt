@@ -1,14 +1,13 @@
 -- `polynomials::weight_at` meets its contract. The loop's invariant: the sum is the weight of the rows from a power on; the first that is taken is the one
 -- above the degree, which is 0. Assumes nothing.
 use mathlib.Core.Path.{_≡_, sym, _∙_, ap}
-use mathlib.Core.List.{List}
-use Prim.Native.Nat.{ℕ, suc, _+_, _-_, _*_, _≤_}
+use Prim.Native.Nat.{ℕ, _+_, _-_, _*_, _<_, _≤_}
 use native.Mathlib.Nat as N
 use native.Mathlib.Omega.{arith}
 use borrow.Author.Needs.{needs}
 use Rattle.polynomials.specs.Group.{weight}
 use Rattle.polynomials.specs.Downward.{rowWeight}
-use Rattle.polynomials.specs.Limits.{against}
+use Rattle.polynomials.specs.Limits.{cap, against, joint}
 use Rattle.polynomials.proofs.Cap.{against-within, against-passed, within-joint, passed-joint}
 use Rattle.polynomials.proofs.DownwardBounds.{rowsWeight, rows-none, rows-more, rows-part, rows-all}
 use Rattle.polynomials.proofs.weight_at.Statement.{statement}
@@ -23,6 +22,9 @@ abbrev μ-loop : tie.MeasureT-loop
 abbrev rest : tie.Start Inv-loop μ-loop → ℕ → ℕ
 rest a = rowsWeight (a .args .degree) (a .args .group .now) (a .args .u .size) (a .args .v .size)
 
+abbrev all : tie.Start Inv-loop μ-loop → ℕ
+all a = weight (a .args .group .now) (a .args .u .size) (a .args .v .size)
+
 -- ════ one row more
 module _ (c : tie.After-add-row Inv-loop μ-loop) where
   abbrev here : tie.At-loop Inv-loop μ-loop
@@ -34,8 +36,17 @@ module _ (c : tie.After-add-row Inv-loop μ-loop) where
   abbrev q : ℕ
   q = here .loop .rows - 1
 
+  abbrev product : ℕ
+  product = here .loop .sum * start .args .v .size
+
+  abbrev row : ℕ
+  row = rowWeight (start .args .degree) (start .args .group .now) (start .args .u .size) q
+
+  result-is : c .add-row .result ≡ joint product row
+  result-is = c .add-row .ensures
+
   -- what was asked comes to the rows from q on
-  more-is : here .loop .sum * start .args .v .size + rowWeight (start .args .degree) (start .args .group .now) (start .args .u .size) q ≡ rest start q
+  more-is : product + row ≡ rest start q
   more-is =
       let e : here .loop .rows ≡ q + 1 = omega arith in
       rows-more (start .args .degree) (start .args .group .now) (start .args .u .size) (start .args .v .size) q (omega arith) (here .loop .inv .1 ∙ ap (rest start) e)
@@ -44,7 +55,7 @@ add-rows : tie.Need-add-rows Inv-loop μ-loop
 add-rows c = omega (arith, c .pre .low)
 
 loop-holds : tie.Need-loop-holds Inv-loop μ-loop
-loop-holds c = (N.le-refl _, sym (rows-none (c .args .degree) (c .args .group .now) (c .args .u .size) (c .args .v .size) (c .pre .few)))
+loop-holds c = (omega arith, sym (rows-none (c .args .degree) (c .args .group .now) (c .args .u .size) (c .args .v .size) (c .pre .few)))
 
 sub-rows : tie.Need-sub-rows Inv-loop μ-loop
 sub-rows c = search needs
@@ -62,9 +73,8 @@ returns : tie.Need-returns Inv-loop μ-loop
 returns c =
     let d = c .before .before in
     let a = start d in
-    let h = passed-joint _ _ (sym (c .enum-told .given .1) ∙ d .add-row .ensures) in
-    let k = rows-part (a .args .degree) (a .args .group .now) (a .args .u .size) (a .args .v .size) (a .pre .few) (a .pre .second .one) (q d) (omega arith) in
-    against-passed _ (N.lt-of-lt-of-le h (N.le-trans (N.le-of-eq (more-is d)) k))
+    let h : cap < product d + row d = passed-joint (product d) (row d) (sym (c .enum-told .given .1) ∙ result-is d) in
+    against-passed (all a) (omega (arith, more-is d, rows-part (a .args .degree) (a .args .group .now) (a .args .u .size) (a .args .v .size) (a .pre .few) (a .pre .second .one) (q d) (omega arith)))
 
 loop-less : tie.Need-loop-less Inv-loop μ-loop
 loop-less c = search needs
@@ -72,10 +82,10 @@ loop-less c = search needs
 loop-again : tie.Need-loop-again Inv-loop μ-loop
 loop-again c =
     let d = c .before .before .before in
-    (omega arith, within-joint _ _ (c .before .more .given .0 .0) (sym (c .before .more .given .1) ∙ d .add-row .ensures) ∙ more-is d)
+    (omega arith, within-joint (product d) (row d) (c .before .more .given .0 .0) (sym (c .before .more .given .1) ∙ result-is d) ∙ more-is d)
 
 -- at the end all of the rows are taken
-total : (c : tie.After-loop Inv-loop μ-loop) → let a = c .before .before in c .before .loop .sum ≡ weight (a .args .group .now) (a .args .u .size) (a .args .v .size)
+total : (c : tie.After-loop Inv-loop μ-loop) → c .before .loop .sum ≡ all (c .before .before)
 total c =
     let a = c .before .before in
     let e : c .before .loop .rows ≡ 0 = omega arith in

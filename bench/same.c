@@ -1,0 +1,301 @@
+/* Holds the peer to the archive: draws 100,000 cases, the same every time, and has each operation answer each of them twice. The
+ * number given back, the whole lent space, which was filled before, and every bit of the floats have to be the same. Prints how
+ * often each number was met, or the first difference. */
+#include "peer.h"
+#include <math.h>
+#include <stdio.h>
+#include <stdlib.h>
+#include <string.h>
+
+enum { CASES = 100000, LIMITS = 11, BLOCK = 50, TABLE = 311, NUMBERS = 26 };
+enum { READ, FLOATS, MICRORADIANS, MOVE, OPERATIONS };
+static const char *const NAMES[OPERATIONS] = {"read", "read with floats", "read in microradians", "move"};
+
+typedef unsigned __int128 u128;
+static const int64_t CAP = 9000000000000000000;
+
+static uint64_t seed = 1;
+static int64_t published[TABLE];
+static long met[OPERATIONS][NUMBERS], edges[2][3], drawn;
+
+/* One case. The readings are those of the reads in milliradians; those in microradians have limits of their own. */
+static struct {
+    int64_t table[TABLE], readings[5], microradians[5], shift;
+    double floats[5];
+    size_t table_count, six_count, moved_count, variable;
+} now;
+
+/* ---- Drawing ---- */
+
+static uint64_t word(void) { /* splitmix64 */
+    uint64_t z = seed += 0x9e3779b97f4a7c15;
+    z = (z ^ (z >> 30)) * 0xbf58476d1ce4e5b9;
+    z = (z ^ (z >> 27)) * 0x94d049bb133111eb;
+    return z ^ (z >> 31);
+}
+static uint64_t below(uint64_t n) { return word() % n; }
+static int64_t between(int64_t low, int64_t high) { return low + (int64_t)below(high - low + 1); }
+static int one_in(int n) { return below(n) == 0; }
+static int64_t either(int64_t x) { return one_in(2) ? x : -x; }
+/* A number of any sign, of 64 - most to 64 - least bits. */
+static int64_t scaled(int least, int most) {
+    int64_t x = (int64_t)word();
+    return x >> between(least, most);
+}
+static int64_t extreme(void) { return (int64_t[]){INT64_MIN, INT64_MIN + 1, INT64_MAX, INT64_MAX - 1}[below(4)]; }
+
+static int lowest(int v) { return v ? 2 * v + 1 : 0; }
+static int highest(int v) { return 2 * v + 2; }
+
+static void good_limits(int64_t *t) {
+    static const int SIZES[] = {0, 1, 2, 10, 100, 500, 1000, 2000};
+    for (int v = 0; v < 5; v++) {
+        int64_t size = SIZES[below(8)], middle = one_in(2) ? 0 : between(size - 2000, 2000 - size);
+        int64_t low = middle - size, high = middle + size;
+        if (one_in(4)) low = between(low, high);
+        if (one_in(4)) high = between(low, high);
+        t[lowest(v)] = low, t[highest(v)] = high;
+    }
+    if (t[0] == t[2]) t[2] < 2000 ? t[2]++ : t[0]--;
+    t[1] = one_in(4) ? t[0] : one_in(3) ? t[2] - 1 : between(t[0], t[2] - 1);
+}
+
+/* One fault: a limit out of range, by one or by far, or two of them in the wrong order. */
+static void bad_limits(int64_t *t) {
+    int v = between(0, 4), k = between(0, LIMITS - 1);
+    switch (below(4)) {
+        case 0: t[k] = either(2001); break;
+        case 1: t[k] = one_in(2) ? extreme() : either(between(2001, 100000)); break;
+        case 2: t[lowest(v)] = t[highest(v)] + between(v ? 1 : 0, 3); break;
+        default: t[1] = one_in(2) ? t[2] + between(0, 2) : t[0] - between(1, 3);
+    }
+}
+
+static void draw_limits(int64_t *t) {
+    if (one_in(2)) good_limits(t);
+    if (one_in(20)) bad_limits(t);
+}
+
+static int64_t moved_limit(int64_t limit) { return limit - now.shift; }
+
+/* A shift, often such that one limit lands on -2000 or 2000 or one beyond. */
+static int64_t draw_shift(const int64_t *t) {
+    int v = now.variable < 5 ? now.variable : 0;
+    int64_t limit = t[one_in(2) ? lowest(v) : highest(v)], edge = either(2000), more = between(-1, 1);
+    switch (below(8)) {
+        case 0: return 0;
+        case 1: case 2: return either(between(1, 40));
+        case 3: case 4: return either(between(1, 400));
+        case 5: return limit < -2000 || limit > 2000 ? 1 : limit + edge + more;
+        case 6: return either(between(3990, 4010));
+        default: return one_in(3) ? extreme() : either(between(1, 4000));
+    }
+}
+
+/* ---- Weights, only to draw tables that come near the cap ---- */
+
+static int64_t reach(int64_t low, int64_t high) {
+    int64_t r = labs(low) > labs(high) ? labs(low) : labs(high);
+    return r ? r : 1;
+}
+
+static u128 magnitude(int64_t x) { return x < 0 ? -(u128)x : (u128)x; }
+
+/* The factors of the 50 places of a block in a piece: by the table's reaches, or by those of the rule for moves. Those of the
+ * other piece are 0. False where limits are not in range. */
+static int factors(const int64_t *t, int piece, int moves, u128 *f) {
+    static const int START[4] = {0, 10, 20, 35}, DEGREE[4] = {3, 3, 4, 4}, FIRST[4] = {0, 0, 1, 1}, SECOND[4] = {3, 3, 2, 4};
+    int64_t r[5];
+    for (int k = 0; k < LIMITS; k++)
+        if (t[k] < -2000 || t[k] > 2000) return 0;
+    if (moves && (now.variable > 4 || now.shift < -4000 || now.shift > 4000)) return 0;
+    for (int v = 0; v < 5; v++) {
+        int64_t low = v || !piece ? t[lowest(v)] : t[1] + 1, high = v || piece ? t[highest(v)] : t[1];
+        int here = moves && now.variable == (size_t)v;
+        r[v] = here ? reach(moved_limit(low), moved_limit(high)) + labs(now.shift) : reach(low, high);
+    }
+    memset(f, 0, BLOCK * sizeof *f);
+    for (int g = 0; g < 4; g++)
+        if (g != 1 - piece)
+            for (int n = 0, k = START[g]; n <= DEGREE[g]; n++)
+                for (int q = 0; q <= n; q++, k++) {
+                    f[k] = 1;
+                    for (int i = 0; i < n; i++) f[k] *= i < q ? r[SECOND[g]] : r[FIRST[g]];
+                }
+    return 1;
+}
+
+/* Sets one number of a block so that its weight in a piece comes as near to the cap as that number lets it, and then one more or
+ * one less. */
+static void to_the_cap(int64_t *t, int moves, int more) {
+    int64_t *g = t + LIMITS + BLOCK * below(6);
+    int piece = below(2), at = below(BLOCK);
+    u128 f[BLOCK], rest = 0;
+    if (!factors(t, piece, moves, f)) return;
+    if (!f[at] || one_in(3)) at = piece ? 10 : 0;
+    for (int k = 0; k < BLOCK; k++)
+        if (k != at) rest += magnitude(g[k]) * f[k];
+    if (rest > (u128)CAP) return;
+    g[at] = either((int64_t)(((u128)CAP - rest) / f[at]) + more);
+}
+
+/* Numbers whose terms share the cap, so that weights lie at a drawn part of it. */
+static void shares(int64_t *t, int moves) {
+    u128 f[2][BLOCK];
+    int64_t share = CAP / (int64_t[]){15, 20, 25, 30, 1000}[below(5)];
+    if (!factors(t, 0, moves, f[0]) || !factors(t, 1, moves, f[1])) return;
+    for (int k = 0; k < TABLE - LIMITS; k++) {
+        u128 a = f[0][k % BLOCK], b = f[1][k % BLOCK];
+        t[LIMITS + k] = either(below(share) / (uint64_t)(a > b ? a : b));
+    }
+}
+
+static void draw_numbers(int64_t *t) {
+    int bits = between(0, 63), kind = below(8), moves = one_in(2);
+    if (kind < 2) return; /* as published */
+    for (int k = LIMITS; k < TABLE; k++) switch (kind) {
+        case 2: t[k] = scaled(bits, bits); break;
+        case 3: t[k] = scaled(bits, 63); break;
+        case 4: t[k] = one_in(20) ? scaled(10, 63) : 0; break;
+        default: break;
+    }
+    if (kind > 4) shares(t, moves);
+    if (kind > 5) {
+        for (int n = between(0, 5); n; n--) to_the_cap(t, moves, one_in(2) ? 0 : -1);
+        to_the_cap(t, moves, between(-1, 1));
+    }
+    if (one_in(40)) {
+        int at = between(LIMITS, TABLE - 1);
+        t[at] = extreme();
+    }
+}
+
+/* A table: the published one, one moved from it, or one with limits and numbers of its own. */
+static void draw_table(void) {
+    int numbers = 0, v = below(5);
+    int64_t s = either(between(1, 300));
+    memcpy(now.table, published, sizeof published);
+    now.variable = one_in(40) ? (one_in(2) ? 5 : word()) : below(5);
+    now.shift = draw_shift(now.table);
+    switch (below(8)) {
+        case 0: return;
+        case 1: clochecloak_move(published, TABLE, v, s, now.table, TABLE); break;
+        default: draw_limits(now.table), numbers = 1;
+    }
+    now.shift = draw_shift(now.table);
+    if (numbers) draw_numbers(now.table);
+}
+
+/* A reading within its limits, at one of them, one outside, or anything. */
+static int64_t draw_reading(int64_t low, int64_t high) {
+    if (low > high || low < -1000000 || high > 1000000) return between(-3000, 3000);
+    switch (below(40)) {
+        case 0: return low - 1;
+        case 1: return high + 1;
+        case 2: return one_in(2) ? extreme() : either(between(1, 5000000));
+        default: return one_in(6) ? low : one_in(5) ? high : between(low, high);
+    }
+}
+
+static double draw_float(int64_t near, int64_t limit) {
+    static const double PARTS[] = {0.5, -0.5, 0.25, -0.25, 0.4999999, -0.4999999, 0x1p-30, -0x1p-30};
+    static const double ODD[] = {NAN, -NAN, INFINITY, -INFINITY, 1e300, -1e300, 0x1p51, -0x1p51, 0x1.8p52, -0x1.8p52, 0x1p53,
+                                 0x1p63, -0x1p63, 0x1p64, 1e19, 0x1.fffffffffffffp51, -0x1.fffffffffffffp51, 4e-320, -4e-320};
+    if (one_in(40)) return ODD[below(sizeof ODD / sizeof *ODD)];
+    if (near == 0 && one_in(2)) return -0.0;
+    if (one_in(20)) return (double)limit + PARTS[below(8)];
+    return one_in(3) ? (double)near : (double)near + PARTS[below(8)];
+}
+
+static size_t draw_count(size_t right) {
+    static const size_t OTHERS[] = {0, 1, 5, 6, 7, 310, 311, 312, SIZE_MAX};
+    return one_in(50) ? OTHERS[below(9)] : right;
+}
+
+static void draw_case(void) {
+    static const int64_t LOW[5] = {-150000, -500000, -200000, -400000, -500000};
+    static const int64_t HIGH[5] = {1000000, 500000, 200000, 400000, 500000};
+    draw_table();
+    for (int v = 0; v < 5; v++) {
+        int64_t low = now.table[lowest(v)], high = now.table[highest(v)];
+        now.readings[v] = draw_reading(low, high);
+        now.floats[v] = draw_float(now.readings[v], one_in(2) ? low : high);
+        now.microradians[v] = draw_reading(LOW[v], HIGH[v]);
+    }
+    if (one_in(10)) now.readings[0] = now.table[1]; /* the last of the low piece */
+    if (one_in(10)) now.microradians[0] = between(313265, 313275);
+    now.table_count = draw_count(TABLE), now.six_count = draw_count(6), now.moved_count = draw_count(TABLE);
+}
+
+/* ---- Comparing ---- */
+
+static void hold(int operation, uint64_t ours, uint64_t peers, const void *a, const void *b, size_t bytes) {
+    if (ours == peers && memcmp(a, b, bytes) == 0) {
+        met[operation][ours]++;
+        return;
+    }
+    printf("same: case %ld, %s: the archive gives back %llu, the peer %llu, and what they wrote is %s\n", drawn, NAMES[operation],
+           (unsigned long long)ours, (unsigned long long)peers, memcmp(a, b, bytes) ? "not the same" : "the same");
+    exit(1);
+}
+
+/* The spaces are a number longer than what is lent, and start with the same drawn bytes. */
+static void compare(void) {
+    static int64_t a[TABLE + 1], b[TABLE + 1];
+    const int64_t *t = now.table, *x = now.readings, *m = now.microradians;
+    const double *f = now.floats;
+    const size_t n = now.table_count, six = now.six_count;
+    memset(a, (int)word(), sizeof a);
+    memcpy(b, a, sizeof b);
+    uint64_t ours = clochecloak_read(t, n, x[0], x[1], x[2], x[3], x[4], a, six);
+    hold(READ, ours, peer_read(t, n, x[0], x[1], x[2], x[3], x[4], b, six), a, b, sizeof a);
+    ours = clochecloak_read_microradians(m[0], m[1], m[2], m[3], m[4], a, six);
+    hold(MICRORADIANS, ours, peer_read_microradians(m[0], m[1], m[2], m[3], m[4], b, six), a, b, sizeof a);
+    ours = clochecloak_move(t, n, now.variable, now.shift, a, now.moved_count);
+    hold(MOVE, ours, peer_move(t, n, now.variable, now.shift, b, now.moved_count), a, b, sizeof a);
+    clochecloak_answer p = clochecloak_read_floats(t, n, f[0], f[1], f[2], f[3], f[4]);
+    clochecloak_answer q = peer_read_floats(t, n, f[0], f[1], f[2], f[3], f[4]);
+    hold(FLOATS, p.number, q.number, &p, &q, sizeof p);
+}
+
+/* How far the heaviest weight is past the cap, where limits are in range; -2 and 2 stand for all that is farther. */
+static int past(int moves) {
+    u128 f[BLOCK], most = 0;
+    for (int piece = 0; piece < 2; piece++) {
+        if (!factors(now.table, piece, moves, f)) return -2;
+        for (int b = 0; b < 6; b++) {
+            u128 weight = 0;
+            for (int k = 0; k < BLOCK; k++) weight += magnitude(now.table[LIMITS + BLOCK * b + k]) * f[k];
+            if (weight > most) most = weight;
+        }
+    }
+    return most > (u128)CAP + 1 ? 2 : most + 1 < (u128)CAP ? -2 : (int)(most + 1 - CAP) - 1;
+}
+
+static void count_edges(void) {
+    for (int moves = 0; moves < 2; moves++) {
+        int p = past(moves);
+        if (p > -2 && p < 2) edges[moves][p + 1]++;
+    }
+}
+
+int main(void) {
+    clochecloak_publish(published, TABLE);
+    peer_prepare(published);
+    for (; drawn < CASES; drawn++) {
+        draw_case();
+        count_edges();
+        compare();
+    }
+    printf("The peer and the archive give the same in %d drawn cases. How often each number was given back:\n", CASES);
+    for (int o = 0; o < OPERATIONS; o++) {
+        printf("%s:", NAMES[o]);
+        for (int k = 0, some = 0; k < NUMBERS; k++)
+            if (met[o][k]) printf("%s %d %ld", some++ ? "," : "", k, met[o][k]);
+        printf("\n");
+    }
+    for (int moves = 0; moves < 2; moves++)
+        printf("heaviest weight of a %s one below the cap, at it, one past it: %ld, %ld, %ld\n", moves ? "move" : "table",
+               edges[moves][0], edges[moves][1], edges[moves][2]);
+    return 0;
+}
