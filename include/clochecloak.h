@@ -5,7 +5,8 @@
  * read has units of its own: whole microradians, and coefficients in units of 10^-9.
  *
  * Every function takes any arguments and gives back 0, or the number of a refusal. After a refusal the output holds what it
- * held before. The counts are counts of numbers, not of bytes. A table and an output may not overlap.
+ * held before. The counts are counts of numbers, not of bytes. A table and an output may not overlap. No function allocates, or calls
+ * anything outside the archive; README.md says how much stack a read takes.
  */
 #ifndef CLOCHECLOAK_H
 #define CLOCHECLOAK_H

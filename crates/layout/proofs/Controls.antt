@@ -16,7 +16,7 @@ use Rattle.layout.specs.Numbers.{limitsSize, blockSize, tableSize, pitch
 use Rattle.layout.specs.Limits.{every, allInRange, good}
 use Rattle.layout.specs.Blocks.{low, high, block, groups, laidOut, chosen, coefficient}
 use Rattle.layout.specs.Sound.{reach, withinCap, light, sound}
-use Rattle.layout.specs.Reaches.{reachCount, reachAt, reachesOf}
+use Rattle.layout.specs.Reaches.{listedReaches, reachesOf}
 use Rattle.layout.specs.Refusals.{first}
 use Rattle.layout.specs.Reading.{readings, inside, values, readNumber, readOutput}
 use Rattle.layout.specs.Moving.{owner, joined, movedLimit, movedLimits, movedBlock, movedTable, moveNumber, moveOutput}
@@ -108,13 +108,13 @@ reaches-worked : map reaches (bounds (negℤ (pos 10)) (negℤ (pos 8)) (pos 5) 
 reaches-worked = refl
 
 -- alpha from -10 to -8 and from -7 to 5, beta from -5 to 0
-row-worked : listed (reachCount smallShape) (reachAt (reach (bounds (negℤ (pos 10)) (negℤ (pos 8)) (pos 5) (negℤ (pos 5)) (pos 0)))) ≡ 10 ∷ 7 ∷ 5 ∷ []
+reaches-listed : listedReaches smallShape (reach (bounds (negℤ (pos 10)) (negℤ (pos 8)) (pos 5) (negℤ (pos 5)) (pos 0))) ≡ 10 ∷ 7 ∷ 5 ∷ []
 unfolding listed
-row-worked = refl
+reaches-listed = refl
 
-row-read : map (λ p. listed 2 (reachesOf (10 ∷ 7 ∷ 5 ∷ []) p)) (low ∷ high ∷ []) ≡ (10 ∷ 5 ∷ []) ∷ (7 ∷ 5 ∷ []) ∷ []
+reaches-held : map (λ p. listed 2 (reachesOf (10 ∷ 7 ∷ 5 ∷ []) p)) (low ∷ high ∷ []) ≡ (10 ∷ 5 ∷ []) ∷ (7 ∷ 5 ∷ []) ∷ []
 unfolding listed
-row-read = refl
+reaches-held = refl
 
 -- ════ reading and moving
 -- limits -10, 3 and 20, and -5 and 0. Up to the cut 100 + 7 u - 2 v and 1 - u, above it 40 - u + 6 v and 2 + 3 u; 1000 and -500 are added in both

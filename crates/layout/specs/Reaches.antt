@@ -1,7 +1,8 @@
--- Reaches in a row, as the code hands them on.
+-- Reaches in a list, as the code hands them on.
 use mathlib.Core.List.{List}
 use Prim.Native.Nat.{ℕ, zero, suc}
 use lib.ListN.{getD}
+use Rattle.polynomials.specs.Sum.{listed}
 use Rattle.layout.specs.Shape.{Shape}
 use Rattle.layout.specs.Blocks.{Piece, low, high}
 
@@ -14,7 +15,10 @@ abbrev pub reachAt : (Piece → ℕ → ℕ) → ℕ → ℕ
 reachAt r zero = r low 0
 reachAt r (suc i) = r high i
 
--- the reaches that a row holds: beside variable 0 the pieces have the same
+abbrev pub listedReaches : Shape → (Piece → ℕ → ℕ) → List ℕ
+listedReaches S r = listed (reachCount S) (reachAt r)
+
+-- the reaches that such a list holds: beside variable 0 the pieces have the same
 abbrev pub reachesOf : List ℕ → Piece → ℕ → ℕ
 reachesOf l low zero = getD l 0 0
 reachesOf l low (suc i) = getD l (suc (suc i)) 0

@@ -27,5 +27,5 @@ pub const BLOCK: usize = ZETA_START + SIDE;
 
 pub const TABLE: usize = LIMITS + BLOCK * BLOCKS;
 
-// The reaches of a table in a row: that of alpha in the low piece, then those of every variable in the high piece.
+// The reaches of a table: that of alpha in the low piece, then those of every variable in the high piece.
 pub const REACHES: usize = 1 + VARIABLES;

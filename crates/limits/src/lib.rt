@@ -15,7 +15,7 @@ ghost use Rattle.layout.specs.Shape.{cumulus, limitsLength};
 ghost use Rattle.layout.specs.Limits.{lowest, highest, cut, longestShift, allInRange, inOrder, good};
 ghost use Rattle.layout.specs.Blocks.{piece as pieceOf};
 ghost use Rattle.layout.specs.Sound.{span, reach};
-ghost use Rattle.layout.specs.Reaches.{reachCount, reachAt};
+ghost use Rattle.layout.specs.Reaches.{listedReaches};
 ghost use Rattle.layout.specs.Refusals.{outside, first, _when_};
 ghost use Rattle.layout.specs.Reading.{readings, inside};
 ghost use Rattle.layout.specs.Moving.{owner, movedLimit, movedLimits};
@@ -188,10 +188,10 @@ impl Limits {
         span(self.lowest(variable), self.highest(variable))
     }
 
-    // The reaches in a row: that of variable 0 in the low piece, then those of every variable in the high piece.
+    // The reaches: that of variable 0 in the low piece, then those of every variable in the high piece.
     pub fn reaches(self) -> [u64; REACHES]
         requires { ⌜ allInRange cumulus (self .numbers) ≡ true ⌝ }
-        ensures { λ r. ⌜ r ≡ listed (reachCount cumulus) (reachAt (reach (self .numbers))) ⌝ }
+        ensures { λ r. ⌜ r ≡ listedReaches cumulus (reach (self .numbers)) ⌝ }
     {
         [
             self.reach(0, 0),

@@ -1,7 +1,7 @@
 -- What the code meets when it asks whether the datum of a variable may be moved.
 --   moved-taken           the limits taken from a table move as the table's
 --   move-unsound          the refusal of an unsound table is the move's
---   longer-row            reaches in a row, made longer, are the longer reaches in a row
+--   longer-listed         listed reaches made longer are the longer reaches, listed
 --   move-far              a move by more than the longest shift takes a limit out of its range
 --   lengthened            the moved reaches can be made longer by the size of the shift
 --   move-one, move-other  the longer ones are at least 1, and beside variable 0 the same in both pieces
@@ -20,12 +20,12 @@ use Rattle.layout.specs.Shape.{tableLength, cumulus}
 use Rattle.layout.specs.Limits.{farthestLimit, longestShift, allInRange, good}
 use Rattle.layout.specs.Blocks.{Piece, low, high}
 use Rattle.layout.specs.Sound.{reach}
-use Rattle.layout.specs.Reaches.{reachCount, reachAt, reachesOf}
+use Rattle.layout.specs.Reaches.{reachCount, reachAt, listedReaches, reachesOf}
 use Rattle.layout.specs.Refusals.{first}
 use Rattle.layout.specs.Moving.{movedLimits, moveReach, moveNumber, moveOutput}
 use Rattle.layout.proofs.LimitLaws.{limits-take, movedLimits-same}
 use Rattle.layout.proofs.Refused.{move-asked, move-kept}
-use Rattle.layout.proofs.Reaches.{reach-one, reach-other, longer-other, row, row-at}
+use Rattle.layout.proofs.Reaches.{reach-one, reach-other, longer-other, listed-reach}
 use Rattle.layout.proofs.SoundMoved.{move-within, moved-reach-within}
 use Rattle.moving.specs.Ready.{Lengthened}
 use Rattle.tables.proofs.Taken.{taken}
@@ -57,12 +57,12 @@ longer-least i n r k = by (eqb k i)
     by true = omega arith
     by false = omega arith
 
-pub longer-row : (r : Piece → ℕ → ℕ) (i n : ℕ) → row (λ p. longer i n (reachesOf (row r cumulus) p)) cumulus ≡ row (λ p. longer i n (r p)) cumulus
-longer-row r i n = listed-ext 0 (reachCount cumulus) _ _ each
+pub longer-listed : (r : Piece → ℕ → ℕ) (i n : ℕ) → listedReaches cumulus (λ p. longer i n (reachesOf (listedReaches cumulus r) p)) ≡ listedReaches cumulus (λ p. longer i n (r p))
+longer-listed r i n = listed-ext 0 (reachCount cumulus) _ _ each
   where
-    each : (k : ℕ) → k < reachCount cumulus → reachAt (λ p. longer i n (reachesOf (row r cumulus) p)) k ≡ reachAt (λ p. longer i n (r p)) k
-    each zero h = longer-at _ (r low) i n 0 (row-at r cumulus 0 h)
-    each (suc k) h = longer-at _ (r high) i n k (row-at r cumulus (suc k) h)
+    each : (k : ℕ) → k < reachCount cumulus → reachAt (λ p. longer i n (reachesOf (listedReaches cumulus r) p)) k ≡ reachAt (λ p. longer i n (r p)) k
+    each zero h = longer-at _ (r low) i n 0 (listed-reach r cumulus 0 h)
+    each (suc k) h = longer-at _ (r high) i n k (listed-reach r cumulus (suc k) h)
 
 -- ════ a move of a table with good limits
 module _ (t : List ℤ) (i : ℕ) (s : ℤ) (h : i < cumulus .variables) (g : good cumulus t ≡ true) where
@@ -70,8 +70,8 @@ module _ (t : List ℤ) (i : ℕ) (s : ℤ) (h : i < cumulus .variables) (g : go
   move-far k = not-so (λ e. let near : natAbs s ≤ longestShift = move-within cumulus i s t h g e in omega arith)
 
   -- that keeps them in range
-  pub lengthened : allInRange cumulus (movedLimits cumulus i s t) ≡ true → Lengthened (row (reach (movedLimits cumulus i s t)) cumulus) (natAbs s)
-  lengthened e = record { fits = λ k l. rw (row-at moved cumulus k l) (omega (arith, each k l, move-within cumulus i s t h g e)) }
+  pub lengthened : allInRange cumulus (movedLimits cumulus i s t) ≡ true → Lengthened (listedReaches cumulus (reach (movedLimits cumulus i s t))) (natAbs s)
+  lengthened e = record { fits = λ k l. rw (listed-reach moved cumulus k l) (omega (arith, each k l, move-within cumulus i s t h g e)) }
     where
       moved : Piece → ℕ → ℕ
       moved = reach (movedLimits cumulus i s t)

@@ -4,11 +4,10 @@ ghost use mathlib.Core.Bool.{true, not};
 ghost use mathlib.Core.List.{[], _∷_, _++_};
 ghost use Prim.Native.Nat.{_+_, _-_, _^_, _<_, _≤_};
 ghost use lib.ListN.{length, drop, getD};
-ghost use Rattle.polynomials.specs.Sum.{listed};
 ghost use Rattle.polynomials.specs.Groups.{longer};
 ghost use Rattle.layout.specs.Shape.{cumulus, limitsLength, tableLength};
 ghost use Rattle.layout.specs.Limits.{allInRange, good};
-ghost use Rattle.layout.specs.Reaches.{reachCount, reachAt, reachesOf};
+ghost use Rattle.layout.specs.Reaches.{reachCount, reachAt, listedReaches, reachesOf};
 ghost use Rattle.layout.specs.Moving.{movedLimits, movedTable, moveLight, moveNumber, moveOutput};
 ghost use Rattle.layout.specs.Accepted.{MoveAccepted};
 ghost use Rattle.layout.specs.Refusals.{first, _when_, limitPast, moveTooHeavy};
@@ -35,7 +34,7 @@ use weights::within_cap;
 // No shift from one limit in range to another is longer.
 const LONGEST: u64 = (MOST + MOST) as u64;
 
-// The variable that the reach at a place of the row belongs to: variable 0 has two, and each other one.
+// The variable that the reach at a place of the list belongs to: variable 0 has two, and each other one.
 fn owner(place: usize) -> usize
     ensures { λ r. ⌜ r ≡ place - 1 ⌝ }
 {
@@ -45,7 +44,7 @@ fn owner(place: usize) -> usize
     place - 1
 }
 
-// The reach at a place of the row, longer by `more` where it is the variable's.
+// The reach at a place of the list, longer by `more` where it is the variable's.
 fn longer_at(reaches: [u64; REACHES], place: usize, variable: usize, more: u64) -> u64
     requires { ⌜ (place < reachCount cumulus) × (getD reaches place 0 + more < 2 ^ 64) ⌝ }
     ensures { λ r. ⌜ r ≡ reachAt (λ p. longer variable more (reachesOf reaches p)) place ⌝ }
@@ -60,7 +59,7 @@ fn longer_at(reaches: [u64; REACHES], place: usize, variable: usize, more: u64) 
 // The reaches with each of one variable longer by `more`.
 fn longer(reaches: [u64; REACHES], variable: usize, more: u64) -> [u64; REACHES]
     requires { ⌜ Lengthened reaches more ⌝ }
-    ensures { λ r. ⌜ r ≡ listed (reachCount cumulus) (reachAt (λ p. longer variable more (reachesOf reaches p))) ⌝ }
+    ensures { λ r. ⌜ r ≡ listedReaches cumulus (λ p. longer variable more (reachesOf reaches p)) ⌝ }
 {
     let mut longer: [u64; REACHES] = [0; REACHES];
     let mut k: usize = 0;

@@ -27,7 +27,7 @@ pub record Sided (t : List ℤ) (start : ℕ) (b x z : Reach) : Type 0 where
   pub xi : Reached x
   pub zeta : Reached z
 
--- to weigh a table at reaches in a row, each at least 1
+-- to weigh a table at reaches that are each at least 1
 pub record Checkable (t : List ℤ) (l : List ℕ) : Type 0 where
   pub whole : length t ≡ tableLength cumulus
   pub one : (k : ℕ) → k < reachCount cumulus → 1 ≤ getD l k 0

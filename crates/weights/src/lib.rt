@@ -32,7 +32,7 @@ const SIDES: usize = 2;
 // A group in alpha and eta has a row of terms for each power of eta.
 const PITCH_ROWS: usize = PITCH_DEGREE + 1;
 
-// The reach at a place of the row, with the most that it multiplies within the cap.
+// One of the reaches, with the most that it multiplies within the cap.
 fn reach_at(reaches: [u64; REACHES], place: usize) -> Reach
     requires { ⌜ (place < reachCount cumulus) × (1 ≤ getD reaches place 0) ⌝ }
     ensures { λ r. ⌜ (r .size ≡ getD reaches place 0) × Reached r ⌝ }

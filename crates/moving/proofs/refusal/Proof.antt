@@ -16,15 +16,15 @@ use Rattle.layout.specs.Shape.{cumulus, kindsLength}
 use Rattle.layout.specs.Limits.{longestShift, allInRange, good}
 use Rattle.layout.specs.Blocks.{Piece}
 use Rattle.layout.specs.Sound.{reach, withinCap}
-use Rattle.layout.specs.Reaches.{reachesOf}
+use Rattle.layout.specs.Reaches.{listedReaches, reachesOf}
 use Rattle.layout.specs.Moving.{movedLimits, moveReach, moveLight}
 use Rattle.layout.specs.Refusals.{limitPast, moveTooHeavy}
 use Rattle.layout.proofs.LimitLaws.{good-facts}
-use Rattle.layout.proofs.Reaches.{row, row-one}
+use Rattle.layout.proofs.Reaches.{listed-one}
 use Rattle.layout.proofs.Refused.{first-skip, first-hit}
-use Rattle.tables.proofs.Taken.{first-nothing, range-taken, light-row}
+use Rattle.tables.proofs.Taken.{first-nothing, range-taken, light-listed}
 use Rattle.moving.specs.Ready.{Lengthened}
-use Rattle.moving.proofs.Steps.{moved-taken, longer-row, move-far, lengthened, move-one, move-other}
+use Rattle.moving.proofs.Steps.{moved-taken, longer-listed, move-far, lengthened, move-one, move-other}
 use Rattle.moving.proofs.refusal.Statement.{statement}
 use Rattle.moving.proofs.refusal.Tie as tie
 
@@ -87,8 +87,8 @@ module _ (c : tie.Else2) where
   limits-good = from .pre .1 .1
 
 -- the reaches, as they come back
-row-is : (c : tie.After-reaches) → c .reaches .result ≡ row (reach (limits (from (c .before)))) cumulus
-row-is c = c .reaches .ensures ∙ ap (λ l. row (reach l) cumulus) (moved-is (there (c .before)))
+reaches-are : (c : tie.After-reaches) → c .reaches .result ≡ listedReaches cumulus (reach (limits (from (c .before))))
+reaches-are c = c .reaches .ensures ∙ ap (λ l. listedReaches cumulus (reach l)) (moved-is (there (c .before)))
 
 -- and as they are made longer
 module _ (c : tie.After-longer) where
@@ -101,16 +101,16 @@ module _ (c : tie.After-longer) where
   abbrev rule : Piece → ℕ → ℕ
   rule = moveReach cumulus (i origin) (s origin) (t origin)
 
-  longer-is : c .longer .result ≡ row rule cumulus
+  longer-is : c .longer .result ≡ listedReaches cumulus rule
   longer-is =
       c .longer .ensures
-      ∙ ap₂ (λ l n. row (λ p. longer (i origin) n (reachesOf l p)) cumulus) (row-is (c .before)) (size-is (there inside .before .before .before))
-      ∙ longer-row (reach (limits origin)) (i origin) (natAbs (s origin))
+      ∙ ap₂ (λ l n. listedReaches cumulus (λ p. longer (i origin) n (reachesOf l p))) (reaches-are (c .before)) (size-is (there inside .before .before .before))
+      ∙ longer-listed (reach (limits origin)) (i origin) (natAbs (s origin))
 
 light-is : (c : tie.After-within-cap) → c .within-cap .result ≡ moveLight cumulus (i (origin (c .before))) (s (origin (c .before))) (t (origin (c .before)))
 light-is c =
     let o = origin (c .before) in
-    c .within-cap .ensures ∙ ap (λ l. withinCap cumulus (t o) (reachesOf l)) (longer-is (c .before)) ∙ light-row (t o) (rule (c .before)) (move-other (t o) (i o) (s o))
+    c .within-cap .ensures ∙ ap (λ l. withinCap cumulus (t o) (reachesOf l)) (longer-is (c .before)) ∙ light-listed (t o) (rule (c .before)) (move-other (t o) (i o) (s o))
 
 magnitude-requires : tie.Need-magnitude-requires
 magnitude-requires c κs = tt
@@ -141,12 +141,12 @@ longer-requires c κs =
     let d = c .before in
     let o = from d in
     subst (Lengthened (c .reaches .result)) (sym (size-is (there d .before .before .before)))
-    (rw (row-is c) (lengthened (t o) (i o) (s o) (variable-in d) (limits-good d) (limits-in-range d)))
+    (rw (reaches-are c) (lengthened (t o) (i o) (s o) (variable-in d) (limits-good d) (limits-in-range d)))
 
 within-cap-requires : tie.Need-within-cap-requires
 within-cap-requires c κs =
     let o = origin c in
-    record { whole = o .pre .0; one = λ k h. rw (longer-is c) (row-one (rule c) cumulus (move-one (t o) (i o) (s o)) k h) }
+    record { whole = o .pre .0; one = λ k h. rw (longer-is c) (listed-one (rule c) cumulus (move-one (t o) (i o) (s o)) k h) }
 
 returns-3 : tie.Need-returns-3
 returns-3 c =

@@ -11,10 +11,10 @@ use Rattle.polynomials.specs.Order.{below}
 use Rattle.layout.specs.Limits.{allInRange, good}
 use Rattle.layout.specs.Blocks.{Piece}
 use Rattle.layout.specs.Sound.{reach, withinCap, light}
-use Rattle.layout.specs.Reaches.{reachesOf}
+use Rattle.layout.specs.Reaches.{listedReaches, reachesOf}
 use Rattle.layout.specs.Refusals.{badLimits, tooHeavy}
 use Rattle.layout.proofs.LimitLaws.{good-facts}
-use Rattle.layout.proofs.Reaches.{reach-one, row, row-one}
+use Rattle.layout.proofs.Reaches.{reach-one, listed-one}
 use Rattle.layout.proofs.Refused.{first-skip, first-hit}
 use Rattle.tables.proofs.Taken.{first-nothing, taken, good-taken, range-taken, light-taken}
 use Rattle.tables.proofs.soundness.soundness.Statement.{statement}
@@ -43,14 +43,14 @@ module _ (c : tie.After-reaches) where
   abbrev reached : Piece → ℕ → ℕ
   reached = reach (taken (t (c .before)))
 
-  row-is : c .reaches .result ≡ row reached cumulus
-  row-is = c .reaches .ensures ∙ ap (λ l. row (reach l) cumulus) (c .before .before .before .of .ensures)
+  reaches-are : c .reaches .result ≡ listedReaches cumulus reached
+  reaches-are = c .reaches .ensures ∙ ap (λ l. listedReaches cumulus (reach l)) (c .before .before .before .of .ensures)
 
 light-is : (c : tie.After-within-cap) → c .within-cap .result ≡ light cumulus (t (c .before .before))
 light-is c =
     let d = c .before in
     let table = t (d .before) in
-    c .within-cap .ensures ∙ ap (λ l. withinCap cumulus table (reachesOf l)) (row-is d) ∙ light-taken table
+    c .within-cap .ensures ∙ ap (λ l. withinCap cumulus table (reachesOf l)) (reaches-are d) ∙ light-taken table
 
 of-requires : tie.Need-of-requires
 unfolding kindsLength below
@@ -69,7 +69,7 @@ within-cap-requires : tie.Need-within-cap-requires
 within-cap-requires c κs =
     record {
       whole = c .before .before .before .before .pre;
-      one = λ k h. rw (row-is c) (row-one (reached c) cumulus (reach-one (taken (t (c .before)))) k h);
+      one = λ k h. rw (reaches-are c) (listed-one (reached c) cumulus (reach-one (taken (t (c .before)))) k h);
     }
 
 returns-2 : tie.Need-returns-2
