@@ -1,7 +1,7 @@
 -- Whole numbers in 64 bits: what fits, what a test on i64 says, and what an operation on i64 asks and gives.
 -- A signed local holds bits, so a test and a need speak of `toZ w64 (ofZ w64 x)`, which is x where x fits.
 --   fits        natAbs-sfits, within-sfits: by a magnitude below 2 ^ 63; sfits-bound: the magnitude of a number that fits
---   tests       lt-taken, lt-left, le-taken, le-left: what `x < y` and `x <= y` say, taken or left; bits-eq, bits-ne: what equal or unequal bits say
+--   tests       lt-taken, lt-left, le-taken, le-left: what `x < y` and `x <= y` say, taken or left
 --   operations  add-bits, sub-bits, mul-bits, neg-bits: the need, that the result fits; add-back, sub-back, mul-back, neg-back: the result as it is read back
 --   chains      op-bits and op-back are the same for any operation, with each operand's value handed over as an equation: the -back of the operation
 --               before, `toZ-ofZ f` of a variable, and `refl {a = pos 7}` of a literal
@@ -49,12 +49,6 @@ module _ {x y : ℤ} (f : SFits w64 x) (g : SFits w64 y) where
 
   pub le-left : leZ (toZ w64 (ofZ w64 x)) (toZ w64 (ofZ w64 y)) ≡ false → y <ℤ x
   le-left e = leZ-no x y (subst (λ (b : Bool). T (not b)) (read leZ e) tt)
-
-  pub bits-eq : ofZ w64 x ≡ ofZ w64 y → x ≡ y
-  bits-eq e = sym (toZ-ofZ f) ∙ ap (toZ w64) e ∙ toZ-ofZ g
-
-pub bits-ne : {x y : ℤ} → (ofZ w64 x ≡ ofZ w64 y → ⊥) → x ≡ y → ⊥
-bits-ne n e = n (ap (ofZ w64) e)
 
 -- ════ operations
 module _ (f : ℤ → ℤ → ℤ) {u v x y : ℤ} (p : u ≡ x) (q : v ≡ y) (h : SFits w64 (f x y)) where
