@@ -1,6 +1,7 @@
 /* How many bytes of the stack a read takes, with its arguments and return address (and, with floats, its answer): it runs on a
  * stack of its own that was filled with one byte, and the lowest changed place shows how deep it went. The deepest counts of
- * three tables, one sound, one sound and near the cap, one refused for its weight, each read in both pieces. Fails where the read
+ * three tables, one sound, one sound and near the cap, one refused for its weight, each read in both pieces. Bytes that are written
+ * below the stack pointer, in the red zone, count as well. Fails where the read
  * in milliradians passes the bytes that are allowed: stack [ALLOWED]. */
 #include "clochecloak.h"
 #include <stdio.h>

@@ -6,7 +6,8 @@
  *
  * Every function takes any arguments and gives back 0, or the number of a refusal. After a refusal the output holds what it
  * held before. The counts are counts of numbers, not of bytes. A table and an output may not overlap. No function allocates, or calls
- * anything outside the archive; README.md says how much stack a read takes.
+ * anything outside the archive; README.md says how much stack a read takes. The code uses the red zone of 128 bytes below the stack
+ * pointer: an interrupt on the same stack has to leave it alone.
  */
 #ifndef CLOCHECLOAK_H
 #define CLOCHECLOAK_H
