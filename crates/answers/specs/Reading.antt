@@ -8,6 +8,7 @@ use lib.IntN.{ℤ}
 use lib.ListN.{length, take, drop, getD}
 use Rattle.lines.specs.State.{start, stepped, steppedBy, finished}
 use Rattle.lines.specs.declared.State.{State}
+use Rattle.layout.specs.Shape.{cumulus}
 use Rattle.tables.specs.Ready.{tableNumber}
 use Rattle.printing.specs.Spell.{written}
 use Rattle.answers.specs.Answers.{lineAnswer, longest}
@@ -60,7 +61,7 @@ pub record LinePart (s : State) (input : List ℕ) (from : ℕ) (p : Part) : Typ
 
 -- to take a part that has a byte: the table's own refusal, and room for an answer
 pub record Taking (t : List ℤ) (refused : ℕ) (input : List ℕ) (from : ℕ) (out : List ℕ) (at : ℕ) : Type 0 where
-  pub known : refused ≡ tableNumber t
+  pub known : refused ≡ tableNumber cumulus t
   pub byte : from < length input
   pub room : at + longest ≤ length out
 

@@ -4,9 +4,11 @@ ghost use Prim.Native.Nat.{_+_, _≤_};
 ghost use lib.ListN.{length};
 ghost use Rattle.printing.specs.Spell.{written};
 ghost use Rattle.answers.specs.Answers.{spaced, numbered, lineAnswer, longestValues, longest};
+ghost use Rattle.layout.specs.Shape.{cumulus};
 ghost use Rattle.tables.specs.Ready.{tableNumber};
 ghost use Rattle.answers.specs.Reading.{fresh, lastIn, Feeding, LinePart, Taking, Taken};
-use layout::BLOCKS;
+use layout::Model;
+use layout::cumulus_one::BLOCKS;
 use lines::Line;
 use lines::State;
 use printing::LONGEST_NUMBER;
@@ -75,7 +77,7 @@ fn put_answer(number: u64, values: [i64; BLOCKS], out: &mut [u8], at: usize) -> 
 
 // The answer of a table, whose own refusal is known, to a line, from the place `at` on; gives the place behind it.
 fn put_line(table: &[i64], refused: u64, line: Line, out: &mut [u8], at: usize) -> usize
-    requires { ⌜ (refused ≡ tableNumber (now table)) × (at + longest ≤ length (now out)) ⌝ }
+    requires { ⌜ (refused ≡ tableNumber cumulus (now table)) × (at + longest ≤ length (now out)) ⌝ }
     ensures place { λ r. ⌜ r ≡ at + length (lineAnswer (now (table .entry)) line) ⌝ }
     ensures output { λ r. ⌜ now (out .exit) ≡ written (now (out .entry)) at (lineAnswer (now (table .entry)) line) ⌝ }
     ensures room { λ r. ⌜ r ≤ at + longest ⌝ }
@@ -90,7 +92,8 @@ fn put_line(table: &[i64], refused: u64, line: Line, out: &mut [u8], at: usize) 
             eta,
             zeta,
         } => {
-            let number = read_known(table, refused, [alpha, beta, xi, eta, zeta], &mut values);
+            let state = [alpha, beta, xi, eta, zeta];
+            let number = read_known(Model::Cumulus, table, refused, &state, &mut values);
             put_answer(number, values, out, at)
         }
     }
@@ -163,7 +166,7 @@ fn take_line(
 pub fn feed(table: &[i64], reading: Reading, input: &[u8], out: &mut [u8]) -> Fed
     ensures { λ r. ⌜ Feeding (now (table .entry)) reading (now (input .entry)) (now (out .entry)) (now (out .exit)) r ⌝ }
 {
-    let refused = refusal_of(table);
+    let refused = refusal_of(Model::Cumulus, table);
     let mut fed = Fed {
         reading,
         taken: 0,
@@ -190,7 +193,8 @@ pub fn finish(table: &[i64], reading: Reading, out: &mut [u8]) -> usize
     }
     let line = reading.line;
     if reading.begun {
-        return put_line(table, refusal_of(table), line.finish(), out, 0);
+        let refused = refusal_of(Model::Cumulus, table);
+        return put_line(table, refused, line.finish(), out, 0);
     }
     0
 }

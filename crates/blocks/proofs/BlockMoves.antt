@@ -1,125 +1,115 @@
--- The four groups of a Cumulus One block, where they stand, and the block that holds them moved.
---   groups-between    the groups of a block
---   shiftable         each of them can be moved where the block can
---   filled            four groups placed one after another make the moved block
+-- A block moved group by group, over the groups of any shape.
+--   each-light    where what counts in each piece is within the cap, so is each group
+--   Moved         what a loop over the groups has written: at the start, after one group more, at the end
+--   next-end, next-ready   the next group stands in the block, and can be moved
 use mathlib.Core.Path.{_≡_, refl, sym, _∙_, ap, subst}
+use mathlib.Core.Bool.{Bool, true, false}
 use mathlib.Core.List.{List, [], _∷_, _++_, append-assoc, append-nil}
-use Prim.Native.Nat.{ℕ, _+_, _-_, _≤_}
+use Prim.Native.Nat.{ℕ, zero, suc, _+_, _-_, _≤_, _<_}
+use native.Mathlib.Nat as N
 use native.Mathlib.Omega.{arith}
 use lib.Dec.{eqb}
-use lib.IntN.{ℤ}
+use lib.IntN.{ℤ, natAbs}
 use lib.ListN.{length, take, drop, length-take, length-drop}
-use lib.Seq.{drop-drop, take-all}
-use Rattle.polynomials.specs.Order.{below}
-use Rattle.polynomials.specs.Groups.{grouped, Group, weightOf, totalWeight, movedGroup, movedGroups}
-use Rattle.polynomials.specs.Limits.{cap}
+use lib.Seq.{take-all}
+use Rattle.polynomials.specs.Order.{size}
+use Rattle.polynomials.specs.Groups.{Group, grouped, weightOf, totalWeight, movedGroup, movedGroups}
+use Rattle.polynomials.specs.Limits.{cap, farthest}
 use Rattle.polynomials.proofs.Together.{length-movedIf}
-use Rattle.layout.specs.Shape.{kindsLength, cumulus}
-use Rattle.layout.specs.Numbers.{pitchSize, sideSize, xiStart, zetaStart, blockSize}
-use Rattle.layout.specs.Blocks.{low, high, groups, laidOut, chosen}
+use Rattle.layout.specs.declared.Kind.{Kind}
+use Rattle.layout.specs.Shape.{Shape, kindsLength}
+use Rattle.layout.specs.Blocks.{Piece, piece, led, groups, laidOut, counts, keep, chosen}
 use Rattle.layout.specs.Moving.{movedBlock}
-use Rattle.blocks.specs.Ready.{between, placed, shiftReach, ShiftableGroup, Shiftable}
+use Rattle.layout.proofs.Fine.{FineKind}
+use Rattle.layout.proofs.Walk.{length-next, length-none, groups-next, groups-none}
+use Rattle.blocks.specs.Ready.{between, placed, shiftReach, EachLight, ShiftableGroup, Shiftable}
 use Rattle.blocks.proofs.Filled.{length-placed, take-placed}
+use Rattle.blocks.proofs.Sums.{few}
 
--- the four groups of a block
-abbrev fourGroups : List ℤ → List Group
-fourGroups l = grouped 0 3 (between l 0 pitchSize) ∷ grouped 0 3 (between l pitchSize xiStart) ∷ grouped 1 2 (between l xiStart zetaStart) ∷ grouped 1 4 (between l zetaStart blockSize) ∷ []
+-- ════ each group
+-- every group counts in one of the pieces
+counted : (n : ℕ) → counts n (piece n) ≡ true
+counted zero = refl
+counted (suc zero) = refl
+counted (suc (suc n)) = refl
 
-pub groups-between : (l : List ℤ) → groups (cumulus .kinds) l ≡ fourGroups l
-unfolding groups below
-groups-between l = λ i.
-    grouped 0 3 (take pitchSize l) ∷ grouped 0 3 (take pitchSize (drop pitchSize l)) ∷ grouped 1 2 (take sideSize (drop-drop pitchSize pitchSize l i)) ∷ grouped 1 4 (take sideSize (third i)) ∷ []
-  where
-    third : drop sideSize (drop pitchSize (drop pitchSize l)) ≡ drop zetaStart l
-    third = ap (drop sideSize) (drop-drop pitchSize pitchSize l) ∙ drop-drop sideSize xiStart l
+module _ (r : ℕ → ℕ) where
+  rest : (b : Bool) (g : Group) (gs : List Group) → totalWeight (keep b g gs) r ≤ cap → totalWeight gs r ≤ cap
+  unfolding totalWeight
+  rest true g gs h = omega arith
+  rest false g gs h = h
 
-pub length-movedGroup : (i : ℕ) (s : ℤ) (g : Group) → length (movedGroup i s g .numbers) ≡ length (g .numbers)
+  pub each-light : (n : ℕ) (gs : List Group) → ((p : Piece) → totalWeight (chosen p n gs) r ≤ cap) → EachLight r gs
+  unfolding chosen EachLight totalWeight
+  each-light n [] h = tt
+  each-light n (g ∷ gs) h =
+      let w : weightOf g r + totalWeight (chosen (piece n) (suc n) gs) r ≤ cap = subst (λ b. totalWeight (keep b g (chosen (piece n) (suc n) gs)) r ≤ cap) (counted n) (h (piece n)) in
+      (omega (arith, w), each-light (suc n) gs (λ p. rest (counts n p) g (chosen p (suc n) gs) (h p)))
+
+length-movedGroup : (i : ℕ) (s : ℤ) (g : Group) → length (movedGroup i s g .numbers) ≡ length (g .numbers)
 unfolding movedGroup
 length-movedGroup i s g = length-movedIf (eqb (g .v) i) _ s _ ∙ length-movedIf (eqb (g .u) i) _ s (g .numbers)
 
-in-order : (a b c d : List ℤ) → ((([] ++ a) ++ b) ++ c) ++ d ≡ a ++ (b ++ (c ++ (d ++ [])))
-in-order a b c d = simp (append-assoc, append-nil)
+-- ════ part of the way through the groups: those before the one numbered g are moved, and it stands at `at`
+pub record Moved (S : Shape) (i : ℕ) (s : ℤ) (from out : List ℤ) (g at : ℕ) : Type 0 where
+  pub same : length out ≡ length from
+  pub left : at + kindsLength (drop g (S .kinds)) ≡ length from
+  pub written : take at out ++ laidOut (movedGroups i s (groups (drop g (S .kinds)) (drop at from))) ≡ movedBlock S i s from
+  pub light : EachLight (shiftReach i s) (groups (drop g (S .kinds)) (drop at from))
 
-module _ (i : ℕ) (s : ℤ) (l : List ℤ) (ready : Shiftable i s l) where
-  pub long : length l ≡ blockSize
-  unfolding kindsLength below
-  long = ready .whole
+module _ (S : Shape) (i : ℕ) (s : ℤ) (from : List ℤ) where
+  pub moved-none : (out : List ℤ) → length out ≡ length from → Shiftable S i s from → Moved S i s from out 0 0
+  unfolding movedBlock
+  moved-none out e v = record { same = e; left = omega (arith, v .whole); written = refl; light = v .light }
 
-  abbrev w : ℕ → ℕ → ℕ → ℕ → ℕ
-  w u v a e = weightOf (grouped u v (between l a e)) (shiftReach i s)
+  module _ (out : List ℤ) (g at : ℕ) (m : Moved S i s from out g at) where
+    pub moved-all : length (S .kinds) ≤ g → out ≡ movedBlock S i s from
+    unfolding laidOut
+    moved-all h =
+        sym (take-all at out (omega (arith, m .same, m .left, length-none S g h))) ∙ sym (append-nil (take at out))
+        ∙ ap (λ gs. take at out ++ laidOut (movedGroups i s gs)) (sym (groups-none S g h (drop at from))) ∙ m .written
 
-  in-low : w 0 3 0 pitchSize + (w 1 2 xiStart zetaStart + (w 1 4 zetaStart blockSize + 0)) ≤ cap
-  unfolding chosen totalWeight
-  in-low = subst (λ gs. totalWeight (chosen low (cumulus .kinds) gs) (shiftReach i s) ≤ cap) (groups-between l) (ready .light low)
+    module _ (k : Kind) (e : drop g (S .kinds) ≡ k ∷ drop (g + 1) (S .kinds)) where
+      abbrev n : ℕ
+      n = size (k .degree)
 
-  in-high : w 0 3 pitchSize xiStart + (w 1 2 xiStart zetaStart + (w 1 4 zetaStart blockSize + 0)) ≤ cap
-  unfolding chosen totalWeight
-  in-high = subst (λ gs. totalWeight (chosen high (cumulus .kinds) gs) (shiftReach i s) ≤ cap) (groups-between l) (ready .light high)
+      pub next-end : at + n ≤ length from
+      next-end = omega (arith, length-next S g k e, m .left)
 
-  length-between : (a e : ℕ) → a ≤ e → e ≤ blockSize → length (between l a e) ≡ e - a
-  length-between a e h k = length-take (e - a) (drop a l) ∙ omega (arith, length-drop a l, long)
+      each : (weightOf (led k (drop at from)) (shiftReach i s) ≤ cap) × EachLight (shiftReach i s) (groups (drop (g + 1) (S .kinds)) (drop (at + n) from))
+      unfolding EachLight
+      each = subst (EachLight (shiftReach i s)) (groups-next S g k e from at) (m .light)
 
-  pub shiftable : (a e u v : ℕ) → a ≤ e → e ≤ blockSize → e - a ≤ sideSize → (u ≡ v → ⊥) → w u v a e ≤ cap → ShiftableGroup u v i s (between l a e)
-  unfolding below
-  shiftable a e u v h k f d c = record { apart = d; few = omega (arith, length-between a e h k); near = ready .near; light = c }
+      group-is : between from at (at + n) ≡ take n (drop at from)
+      group-is = let e : at + n - at ≡ n = omega arith in ap (λ c. take c (drop at from)) e
 
-  abbrev pub part : ℕ → ℕ → ℕ → ℕ → List ℤ
-  part u v a e = movedGroup i s (grouped u v (between l a e)) .numbers
+      pub next-ready : {v : ℕ} → FineKind v k → natAbs s ≤ farthest → ShiftableGroup (k .u) (k .v) i s (between from at (at + n))
+      next-ready f h =
+          subst (λ l. ShiftableGroup (k .u) (k .v) i s l) (sym group-is)
+          record {
+            apart = f .apart;
+            few = omega (arith, length-take n (drop at from), few (k .degree) (f .few));
+            near = h;
+            light = each .0;
+          }
 
-  pub length-part : (u v a e : ℕ) → a ≤ e → e ≤ blockSize → length (part u v a e) ≡ e - a
-  length-part u v a e h k = length-movedGroup i s (grouped u v (between l a e)) ∙ length-between a e h k
+      abbrev numbersOf : List ℤ
+      numbersOf = movedGroup i s (grouped (k .u) (k .v) (between from at (at + n))) .numbers
 
-  abbrev moved : List ℤ
-  moved = part 0 3 0 pitchSize ++ (part 0 3 pitchSize xiStart ++ (part 1 2 xiStart zetaStart ++ (part 1 4 zetaStart blockSize ++ [])))
+      long : length numbersOf ≡ at + n - at
+      long = length-movedGroup i s _ ∙ length-take (at + n - at) (drop at from) ∙ omega (arith, length-drop at from, next-end)
 
-  moved-parts : movedBlock cumulus i s l ≡ moved
-  unfolding movedBlock laidOut
-  moved-parts = ap (λ gs. laidOut (movedGroups i s gs)) (groups-between l)
-
-  -- the output after each of the four is placed
-  module _ (out : List ℤ) (same : length out ≡ length l) where
-    abbrev pub one : List ℤ
-    one = placed out 0 pitchSize (part 0 3 0 pitchSize)
-
-    abbrev pub two : List ℤ
-    two = placed one pitchSize xiStart (part 0 3 pitchSize xiStart)
-
-    abbrev pub three : List ℤ
-    three = placed two xiStart zetaStart (part 1 2 xiStart zetaStart)
-
-    abbrev pub four : List ℤ
-    four = placed three zetaStart blockSize (part 1 4 zetaStart blockSize)
-
-    pub length-one : length one ≡ length l
-    length-one = length-placed out 0 pitchSize (part 0 3 0 pitchSize) (omega arith) (omega (arith, long)) (length-part 0 3 0 pitchSize (omega arith) (omega arith)) ∙ same
-
-    pub length-two : length two ≡ length l
-    length-two = length-placed one pitchSize xiStart (part 0 3 pitchSize xiStart) (omega arith) (omega (arith, long, length-one)) (length-part 0 3 pitchSize xiStart (omega arith) (omega arith)) ∙ length-one
-
-    pub length-three : length three ≡ length l
-    length-three = length-placed two xiStart zetaStart (part 1 2 xiStart zetaStart) (omega arith) (omega (arith, long, length-two)) (length-part 1 2 xiStart zetaStart (omega arith) (omega arith)) ∙ length-two
-
-    pub length-four : length four ≡ length l
-    length-four = length-placed three zetaStart blockSize (part 1 4 zetaStart blockSize) (omega arith) (omega (arith, long, length-three)) (length-part 1 4 zetaStart blockSize (omega arith) (omega arith)) ∙ length-three
-
-    pub filled : four ≡ movedBlock cumulus i s l
-    filled =
-        sym (take-all blockSize four (omega (arith, long, length-four)))
-        ∙ take-placed three zetaStart blockSize (part 1 4 zetaStart blockSize) (omega arith) (omega (arith, long, length-three)) (length-part 1 4 zetaStart blockSize (omega arith) (omega arith)) _
-        (take-placed two xiStart zetaStart (part 1 2 xiStart zetaStart) (omega arith) (omega (arith, long, length-two)) (length-part 1 2 xiStart zetaStart (omega arith) (omega arith)) _
-        (take-placed one pitchSize xiStart (part 0 3 pitchSize xiStart) (omega arith) (omega (arith, long, length-one)) (length-part 0 3 pitchSize xiStart (omega arith) (omega arith)) _
-        (take-placed out 0 pitchSize (part 0 3 0 pitchSize) (omega arith) (omega (arith, long, same)) (length-part 0 3 0 pitchSize (omega arith) (omega arith)) [] refl)))
-        ∙ in-order (part 0 3 0 pitchSize) (part 0 3 pitchSize xiStart) (part 1 2 xiStart zetaStart) (part 1 4 zetaStart blockSize) ∙ sym moved-parts
-
-  -- each of the four can be moved
-  pub ready-low : ShiftableGroup 0 3 i s (between l 0 pitchSize)
-  ready-low = shiftable 0 pitchSize 0 3 (omega arith) (omega arith) (omega arith) (λ e. absurd (omega arith)) (omega (arith, in-low))
-
-  pub ready-high : ShiftableGroup 0 3 i s (between l pitchSize xiStart)
-  ready-high = shiftable pitchSize xiStart 0 3 (omega arith) (omega arith) (omega arith) (λ e. absurd (omega arith)) (omega (arith, in-high))
-
-  pub ready-xi : ShiftableGroup 1 2 i s (between l xiStart zetaStart)
-  ready-xi = shiftable xiStart zetaStart 1 2 (omega arith) (omega arith) (omega arith) (λ e. absurd (omega arith)) (omega (arith, in-low))
-
-  pub ready-zeta : ShiftableGroup 1 4 i s (between l zetaStart blockSize)
-  ready-zeta = shiftable zetaStart blockSize 1 4 (omega arith) (omega arith) (omega arith) (λ e. absurd (omega arith)) (omega (arith, in-low))
+      pub moved-more : Moved S i s from (placed out at (at + n) numbersOf) (g + 1) (at + n)
+      unfolding laidOut
+      moved-more =
+          record {
+            same = length-placed out at (at + n) numbersOf (omega arith) (omega (arith, next-end, m .same)) long ∙ m .same;
+            left = omega (arith, length-next S g k e, m .left);
+            written =
+                ap (λ l. l ++ laidOut (movedGroups i s (groups (drop (g + 1) (S .kinds)) (drop (at + n) from))))
+                (take-placed out at (at + n) numbersOf (omega arith) (omega (arith, next-end, m .same)) long (take at out) refl)
+                ∙ append-assoc (take at out) numbersOf _
+                ∙ ap (λ l. take at out ++ (movedGroup i s (grouped (k .u) (k .v) l) .numbers ++ laidOut (movedGroups i s (groups (drop (g + 1) (S .kinds)) (drop (at + n) from))))) group-is
+                ∙ ap (λ gs. take at out ++ laidOut (movedGroups i s gs)) (sym (groups-next S g k e from at)) ∙ m .written;
+            light = each .1;
+          }

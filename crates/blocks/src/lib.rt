@@ -5,46 +5,45 @@ ghost use lib.ListN.{length, take, drop};
 ghost use Rattle.polynomials.specs.Binomial.{multipliedRows, shiftIn};
 ghost use Rattle.polynomials.specs.Group.{value};
 ghost use Rattle.polynomials.specs.Groups.{grouped, total, movedGroup};
-ghost use Rattle.layout.specs.Shape.{cumulus};
+ghost use Rattle.layout.specs.Shape.{shape};
 ghost use Rattle.layout.specs.Blocks.{coefficient, piece as pieceOf};
 ghost use Rattle.layout.specs.Reading.{readings};
 ghost use Rattle.layout.specs.Moving.{movedBlock};
 ghost use Rattle.blocks.specs.Ready.{between, placed, GroupAt, Valued, ShiftableGroup, Between, Shiftable};
-use layout::BLOCK;
-use layout::LIMITS;
-use layout::PITCH;
-use layout::SIDE;
-use layout::VARIABLES;
-use layout::XI_START;
-use layout::ZETA_START;
+use layout::Model;
 use polynomials::Variable;
 
+// Low and high, each with a group of its own, which come first in a block.
+const PIECES: usize = 2;
+
 // The value of the group of `count` numbers in the variables u and v that starts at a place of a table, at a state.
-fn group_at(
-    table: &[i64],
-    start: usize,
-    count: usize,
-    u: usize,
-    v: usize,
-    state: [i64; VARIABLES],
-) -> i64
-    requires { ⌜ GroupAt (now table) start count u v state ⌝ }
-    ensures { λ r. ⌜ r ≡ value (take count (drop start (now (table .entry)))) (readings state u) (readings state v) ⌝ }
+fn group_at(table: &[i64], start: usize, count: usize, u: usize, v: usize, state: &[i64]) -> i64
+    requires { ⌜ GroupAt (now table) start count u v (now state) ⌝ }
+    ensures { λ r. ⌜ r ≡ value (take count (drop start (now (table .entry)))) (readings (now (state .entry)) u) (readings (now (state .entry)) v) ⌝ }
 {
     let end = start + count;
     polynomials::value_at(&table[start..end], state[u], state[v])
 }
 
-// The coefficient of a block at a state, in the low piece (0) or the high one.
-pub fn coefficient_at(table: &[i64], block: usize, piece: usize, state: [i64; VARIABLES]) -> i64
-    requires { ⌜ Valued (now table) block piece state ⌝ }
-    ensures { λ r. ⌜ r ≡ total (coefficient cumulus (now (table .entry)) block (pieceOf piece)) (readings state) ⌝ }
+// The coefficient of a block at a state, in the low piece (0) or the high one (1): the piece's own group, then those that count in both.
+pub fn coefficient_at(model: Model, table: &[i64], block: usize, piece: usize, state: &[i64]) -> i64
+    requires { ⌜ Valued (shape model) (now table) block piece (now state) ⌝ }
+    ensures { λ r. ⌜ r ≡ total (coefficient (shape model) (now (table .entry)) block (pieceOf piece)) (readings (now (state .entry))) ⌝ }
 {
-    let start = LIMITS + BLOCK * block;
-    let pitch = group_at(table, start + PITCH * piece, PITCH, 0, 3, state);
-    let aileron = group_at(table, start + XI_START, SIDE, 1, 2, state);
-    let rudder = group_at(table, start + ZETA_START, SIDE, 1, 4, state);
-    pitch + (aileron + rudder)
+    let own = model.kind(0);
+    let size = own.size();
+    let start = model.start(block);
+    let mut at = start + PIECES * size;
+    let mut sum = group_at(table, start + size * piece, size, own.u, own.v, state);
+    let mut group: usize = PIECES;
+    while group < model.groups() {
+        let kind = model.kind(group);
+        let count = kind.size();
+        sum += group_at(table, at, count, kind.u, kind.v, state);
+        at += count;
+        group += 1;
+    }
+    sum
 }
 
 // The numbers as they are.
@@ -112,15 +111,31 @@ fn move_between(
     );
 }
 
-// A block with each of its groups moved, written into the part of the output that belongs to it.
-pub fn move_block(from: &[i64], out: &mut [i64], variable: usize, rows: &[[i64; 5]; 5])
+// A block with each of its groups moved, written into the part of the output that belongs to it: the pieces' own, then those that count in
+// both.
+pub fn move_block(
+    model: Model,
+    from: &[i64],
+    out: &mut [i64],
+    variable: usize,
+    rows: &[[i64; 5]; 5],
+)
     ghost { ℤ }
     requires { λ shift. ⌜ shiftIn (now rows) ≡ shift ⌝ }
-    requires { λ shift. ⌜ (now rows ≡ multipliedRows shift) × ((length (now out) ≡ length (now from)) × Shiftable variable shift (now from)) ⌝ }
-    ensures { λ shift r. ⌜ now (out .exit) ≡ movedBlock cumulus variable shift (now (from .entry)) ⌝ }
+    requires { λ shift. ⌜ (now rows ≡ multipliedRows shift) × ((length (now out) ≡ length (now from)) × Shiftable (shape model) variable shift (now from)) ⌝ }
+    ensures { λ shift r. ⌜ now (out .exit) ≡ movedBlock (shape model) variable shift (now (from .entry)) ⌝ }
 {
-    move_between(from, out, 0, PITCH, 0, 3, variable, rows);
-    move_between(from, out, PITCH, XI_START, 0, 3, variable, rows);
-    move_between(from, out, XI_START, ZETA_START, 1, 2, variable, rows);
-    move_between(from, out, ZETA_START, BLOCK, 1, 4, variable, rows);
+    let own = model.kind(0);
+    let size = own.size();
+    let mut at = PIECES * size;
+    move_between(from, out, 0, size, own.u, own.v, variable, rows);
+    move_between(from, out, size, at, own.u, own.v, variable, rows);
+    let mut group: usize = PIECES;
+    while group < model.groups() {
+        let kind = model.kind(group);
+        let end = at + kind.size();
+        move_between(from, out, at, end, kind.u, kind.v, variable, rows);
+        at = end;
+        group += 1;
+    }
 }

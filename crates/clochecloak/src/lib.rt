@@ -31,7 +31,7 @@ pub extern "C" fn clochecloak_read(
     ensures output { λ r. ⌜ now (out .exit) ≡ readOutput cumulus (now (table .entry)) (readings (alpha ∷ beta ∷ xi ∷ eta ∷ zeta ∷ [])) (now (out .entry)) ⌝ }
 {
     let state = [alpha, beta, xi, eta, zeta];
-    tables::reading::read(table, state, out)
+    cumulus::read(table, state, out)
 }
 
 #[no_mangle]
@@ -59,7 +59,7 @@ pub extern "C" fn clochecloak_move(
     ensures number { λ r. ⌜ r ≡ moveNumber cumulus (now (table .entry)) variable shift (now (out .entry)) ⌝ }
     ensures output { λ r. ⌜ now (out .exit) ≡ moveOutput cumulus (now (table .entry)) variable shift (now (out .entry)) ⌝ }
 {
-    moving::move_datum(table, variable, shift, out)
+    cumulus::move_datum(table, variable, shift, out)
 }
 
 #[no_mangle]

@@ -26,7 +26,8 @@ use Rattle.polynomials.proofs.Listed.{length-listed, getD-listed}
 use Rattle.polynomials.proofs.Places.{place-below, powers-place}
 use Rattle.polynomials.proofs.Semiring.{whole, nil-mul, unit-mul, add-mul}
 use Rattle.polynomials.proofs.Sums.{sum-suc, sum-ext, sum-nil, sum-add}
-use Rattle.layout.specs.Shape.{Kind, kindsLength, cumulus}
+use Rattle.layout.specs.declared.Kind.{Kind}
+use Rattle.layout.specs.Shape.{kindsLength, cumulus}
 use Rattle.layout.specs.Blocks.{Piece, low, high, groups, laidOut, chosen, coefficient}
 use Rattle.layout.specs.Refusals.{done}
 use Rattle.layout.specs.Reading.{values, readNumber, readOutput}
@@ -137,7 +138,7 @@ at-⊕ A (t ∷ f) g x =
 -- ════ a coefficient
 -- what its block holds in a piece
 abbrev pub held : Angles → Piece → Coefficient → List Group
-held A p C = chosen p (cumulus .kinds) (byKind (group (scaleIn A)) (cumulus .kinds) (parts C))
+held A p C = chosen p 0 (byKind (group (scaleIn A)) (cumulus .kinds) (parts C))
 
 -- and what the report has there: (3) or (4)
 abbrev pub equation : Angles → Piece → Coefficient → (ℕ → ℤ) → ℤ

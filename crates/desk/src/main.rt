@@ -1,5 +1,5 @@
 // Answers each line of a script on standard input with a line on standard output.
-use layout::TABLE;
+use layout::cumulus_one::TABLE;
 use libc::STDIN_FILENO;
 use libc::STDOUT_FILENO;
 use spaces::ALL;

@@ -44,7 +44,7 @@ use Rattle.door.proofs.Numbers.{refusedNotFinite, refusedOutside, named
 use Rattle.door.proofs.Told.{not-finite-told, outside-told, outside-step, number-step, first-same, outside-found}
 
 -- the tests of the table give no number of a reading outside
-past-tests : (a b c : Bool) (n i : ℕ) → cond a wrongTable (cond b badLimits (cond c tooHeavy n)) ≡ outside i → n ≡ outside i
+past-tests : (a b c : Bool) (n i : ℕ) → cond a wrongTable (cond b badLimits (cond c tooHeavy n)) ≡ outside cumulus i → n ≡ outside cumulus i
 past-tests true b c n i e = absurd (omega arith)
 past-tests false true c n i e = absurd (omega arith)
 past-tests false false true n i e = absurd (omega arith)
@@ -52,30 +52,30 @@ past-tests false false false n i e = e
 
 module _ (t : List ℤ) (x : ℕ → Float) where
   abbrev plainNotFinite : ℕ → Refusal
-  plainNotFinite i = notFinite i when not (finite (x i))
+  plainNotFinite i = notFinite cumulus i when not (finite (x i))
 
   abbrev plainOutside : ℕ → Refusal
-  plainOutside i = outside i when not (inside t (roundedAll x) i)
+  plainOutside i = outside cumulus i when not (inside cumulus t (roundedAll x) i)
 
   module _ (n : ℕ) where
-    not-finites-same : first (notFinites n (stepAt t x)) ≡ first (listed n plainNotFinite)
+    not-finites-same : first (notFinites cumulus n (stepAt cumulus t x)) ≡ first (listed n plainNotFinite)
     not-finites-same =
-        first-same (refusedNotFinite (stepAt t x)) plainNotFinite n (λ i h. not-finite-told (x i) (lowest t i) (highest t i)) (λ i e. named-not-finite i (stepAt t x i) e)
+        first-same (refusedNotFinite (stepAt cumulus t x)) plainNotFinite n (λ i h. not-finite-told (x i) (lowest cumulus t i) (highest cumulus t i)) (λ i e. named-not-finite i (stepAt cumulus t x i) e)
 
-    outsides-same : ((i : ℕ) → i < n → finite (x i) ≡ true) → first (outsides n (stepAt t x)) ≡ first (listed n plainOutside)
+    outsides-same : ((i : ℕ) → i < n → finite (x i) ≡ true) → first (outsides cumulus n (stepAt cumulus t x)) ≡ first (listed n plainOutside)
     outsides-same f =
-        first-same (refusedOutside (stepAt t x)) plainOutside n (λ i h. outside-told (x i) (lowest t i) (highest t i) (f i h)) (λ i e. named-outside i (stepAt t x i) e)
+        first-same (refusedOutside (stepAt cumulus t x)) plainOutside n (λ i h. outside-told (x i) (lowest cumulus t i) (highest cumulus t i) (f i h)) (λ i e. named-outside i (stepAt cumulus t x i) e)
 
-    tested : first (notFinites n (stepAt t x) ++ outsides n (stepAt t x)) ≡ first (listed n plainNotFinite ++ listed n plainOutside)
+    tested : first (notFinites cumulus n (stepAt cumulus t x) ++ outsides cumulus n (stepAt cumulus t x)) ≡ first (listed n plainNotFinite ++ listed n plainOutside)
     tested = go (found plainNotFinite n)
       where
-        go : Found plainNotFinite n → first (notFinites n (stepAt t x) ++ outsides n (stepAt t x)) ≡ first (listed n plainNotFinite ++ listed n plainOutside)
+        go : Found plainNotFinite n → first (notFinites cumulus n (stepAt cumulus t x) ++ outsides cumulus n (stepAt cumulus t x)) ≡ first (listed n plainNotFinite ++ listed n plainOutside)
         go (none all) =
-            past-finite (stepAt t x) n (not-finites-same ∙ first-none plainNotFinite n all) ∙ outsides-same (λ i h. not-false (finite (x i)) (all i h))
+            past-finite (stepAt cumulus t x) n (not-finites-same ∙ first-none plainNotFinite n all) ∙ outsides-same (λ i h. not-false (finite (x i)) (all i h))
             ∙ sym (first-past plainNotFinite n all (listed n plainOutside))
         go (at k b before one) =
             let apart : first (listed n plainNotFinite) ≡ 0 → ⊥ = λ z. omega (arith, first-at plainNotFinite k before one n b) in
-            first-apart (notFinites n (stepAt t x)) (outsides n (stepAt t x)) (λ z. apart (sym not-finites-same ∙ z)) ∙ not-finites-same
+            first-apart (notFinites cumulus n (stepAt cumulus t x)) (outsides cumulus n (stepAt cumulus t x)) (λ z. apart (sym not-finites-same ∙ z)) ∙ not-finites-same
             ∙ sym (first-apart (listed n plainNotFinite) (listed n plainOutside) apart)
 
   -- The number is the first of these: the table's length, its limits, its weights, then over all five a float that is not finite, then a rounded
@@ -85,7 +85,7 @@ module _ (t : List ℤ) (x : ℕ → Float) where
       ((wrongTable when not (eqb (length t) (tableLength cumulus)))
       ∷ (badLimits when not (good cumulus t))
       ∷ (tooHeavy when not (light cumulus t))
-      ∷ (listed (cumulus .variables) (λ i. notFinite i when not (finite (x i))) ++ listed (cumulus .variables) (λ i. outside i when not (inside t (roundedAll x) i))))
+      ∷ (listed (cumulus .variables) (λ i. notFinite cumulus i when not (finite (x i))) ++ listed (cumulus .variables) (λ i. outside cumulus i when not (inside cumulus t (roundedAll x) i))))
   unfolding doorNumber first
   number-told =
       ap (λ n. cond (not (eqb (length t) (tableLength cumulus))) wrongTable (cond (not (good cumulus t)) badLimits (cond (not (light cumulus t)) tooHeavy n))) (tested (cumulus .variables))
@@ -98,9 +98,9 @@ module _ (t : List ℤ) (x : ℕ → Float) where
   abbrev zeros : List ℤ
   zeros = listed (cumulus .blocks) (λ b. pos 0)
 
-  getD-values : (b : ℕ) → b < cumulus .blocks → getD (values cumulus t (roundedAll x)) b (pos 0) ≡ total (coefficient cumulus t b (pieceAt t (roundedAll x))) (roundedAll x)
+  getD-values : (b : ℕ) → b < cumulus .blocks → getD (values cumulus t (roundedAll x)) b (pos 0) ≡ total (coefficient cumulus t b (pieceAt cumulus t (roundedAll x))) (roundedAll x)
   unfolding values
-  getD-values b h = getD-listed (cumulus .blocks) (λ k. total (coefficient cumulus t k (pieceAt t (roundedAll x))) (roundedAll x)) b (pos 0) h
+  getD-values b h = getD-listed (cumulus .blocks) (λ k. total (coefficient cumulus t k (pieceAt cumulus t (roundedAll x))) (roundedAll x)) b (pos 0) h
 
   module _ (f : (i : ℕ) → i < cumulus .variables → finite (x i) ≡ true) where
     -- Five finite readings are given the number of the whole-number read at the rounded readings.
@@ -109,7 +109,7 @@ module _ (t : List ℤ) (x : ℕ → Float) where
     number-read =
         let rest : ℕ → ℕ = λ n. cond (not (good cumulus t)) badLimits (cond (not (light cumulus t)) tooHeavy n) in
         ap (λ n. cond (not (eqb (length t) (tableLength cumulus))) wrongTable (rest n))
-        (past-finite (stepAt t x) (cumulus .variables) (not-finites-same (cumulus .variables) ∙ first-none plainNotFinite (cumulus .variables) (λ i h. ap not (f i h))) ∙ outsides-same (cumulus .variables) f)
+        (past-finite (stepAt cumulus t x) (cumulus .variables) (not-finites-same (cumulus .variables) ∙ first-none plainNotFinite (cumulus .variables) (λ i h. ap not (f i h))) ∙ outsides-same (cumulus .variables) f)
         ∙ ap (λ q. cond (not (eqb (length t) (tableLength cumulus))) wrongTable (cond (not q) wrongOutput (rest (first (listed (cumulus .variables) plainOutside)))))
         (sym (eq-eqb (length zeros) (cumulus .blocks) (length-listed (cumulus .blocks) (λ b. pos 0))))
 
@@ -130,20 +130,20 @@ module _ (t : List ℤ) (x : ℕ → Float) where
   zero-on-refusal h = zero-refused t x (doorNumber cumulus t x) refl (omega (arith, h))
 
   -- Where the reading of variable i is refused as outside, its step carries it as given, and hands it back.
-  pub reading-step : (i : ℕ) → i < cumulus .variables → doorNumber cumulus t x ≡ outside i → (stepAt t x i ≡ Outside (x i)) × (doorReading cumulus t x ≡ handedBack (stepAt t x i))
+  pub reading-step : (i : ℕ) → i < cumulus .variables → doorNumber cumulus t x ≡ outside cumulus i → (stepAt cumulus t x i ≡ Outside (x i)) × (doorReading cumulus t x ≡ handedBack (stepAt cumulus t x i))
   unfolding doorNumber first
   reading-step i h e =
-      let step = outside-found (stepAt t x) (cumulus .variables) i (omega arith) (past-tests (not (eqb (length t) (tableLength cumulus))) (not (good cumulus t)) (not (light cumulus t)) _ i e) in
-      (outside-step (x i) (lowest t i) (highest t i) step, reading-is t x (outside i) e ∙ back-given (stepAt t x) i h)
+      let step = outside-found (stepAt cumulus t x) (cumulus .variables) i (omega arith) (past-tests (not (eqb (length t) (tableLength cumulus))) (not (good cumulus t)) (not (light cumulus t)) _ i e) in
+      (outside-step (x i) (lowest cumulus t i) (highest cumulus t i) step, reading-is t x (outside cumulus i) e ∙ back-given (stepAt cumulus t x) i h)
 
   -- With every other number, 0 included, positive zero is handed back.
-  pub reading-elsewhere : ((i : ℕ) → i < cumulus .variables → doorNumber cumulus t x ≡ outside i → ⊥) → doorReading cumulus t x ≡ positiveZero
-  reading-elsewhere h = reading-is t x (doorNumber cumulus t x) refl ∙ go (decLt (doorNumber cumulus t x) (outside 0)) (decLt (doorNumber cumulus t x) (outside (cumulus .variables)))
+  pub reading-elsewhere : ((i : ℕ) → i < cumulus .variables → doorNumber cumulus t x ≡ outside cumulus i → ⊥) → doorReading cumulus t x ≡ positiveZero
+  reading-elsewhere h = reading-is t x (doorNumber cumulus t x) refl ∙ go (decLt (doorNumber cumulus t x) (outside cumulus 0)) (decLt (doorNumber cumulus t x) (outside cumulus (cumulus .variables)))
     where
-      go : Dec (doorNumber cumulus t x < outside 0) → Dec (doorNumber cumulus t x < outside (cumulus .variables)) → readingFor cumulus (stepAt t x) (doorNumber cumulus t x) ≡ positiveZero
-      go (yes a) b = back-below (stepAt t x) (doorNumber cumulus t x) a
-      go (no a) (no b) = back-above (stepAt t x) (doorNumber cumulus t x) (omega arith)
-      go (no a) (yes b) = absurd (h (doorNumber cumulus t x - outside 0) (omega arith) (omega arith))
+      go : Dec (doorNumber cumulus t x < outside cumulus 0) → Dec (doorNumber cumulus t x < outside cumulus (cumulus .variables)) → readingFor cumulus (stepAt cumulus t x) (doorNumber cumulus t x) ≡ positiveZero
+      go (yes a) b = back-below (stepAt cumulus t x) (doorNumber cumulus t x) a
+      go (no a) (no b) = back-above (stepAt cumulus t x) (doorNumber cumulus t x) (omega arith)
+      go (no a) (yes b) = absurd (h (doorNumber cumulus t x - outside cumulus 0) (omega arith) (omega arith))
 
   -- None of the seven floats is a NaN.
   pub value-number : (b : ℕ) → isNan (doorValue cumulus t x b) ≡ false
@@ -151,15 +151,15 @@ module _ (t : List ℤ) (x : ℕ → Float) where
   value-number b = go (eqb (doorNumber cumulus t x) 0)
     where
       go : (c : Bool) → isNan (cond c (floatAt cumulus t (roundedAll x) b) positiveZero) ≡ false
-      go true = never-nan (total (coefficient cumulus t b (pieceAt t (roundedAll x))) (roundedAll x))
+      go true = never-nan (total (coefficient cumulus t b (pieceAt cumulus t (roundedAll x))) (roundedAll x))
       go false = refl
 
   pub reading-number : isNan (doorReading cumulus t x) ≡ false
   unfolding doorReading isNan
-  reading-number = go (forOutside cumulus (doorNumber cumulus t x)) (doorNumber cumulus t x - outside 0)
+  reading-number = go (forOutside cumulus (doorNumber cumulus t x)) (doorNumber cumulus t x - outside cumulus 0)
     where
-      go : (c : Bool) (i : ℕ) → isNan (cond c (handedBack (stepAt t x i)) positiveZero) ≡ false
-      go true i = number-step (x i) (lowest t i) (highest t i)
+      go : (c : Bool) (i : ℕ) → isNan (cond c (handedBack (stepAt cumulus t x i)) positiveZero) ≡ false
+      go true i = number-step (x i) (lowest cumulus t i) (highest cumulus t i)
       go false i = refl
 
   -- Any two answers that the contract allows are equal.

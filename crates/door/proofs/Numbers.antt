@@ -30,96 +30,96 @@ use Rattle.door.specs.Door.{roundedAll, stepAt, notFinites, outsides, do
 use Rattle.door.proofs.Firsts.{Found, none, at, found}
 
 -- ---- the refusals of steps
-pub named-not-finite : (i : ℕ) (r : Step) → isNotFinite r ≡ true → numberOf i r ≡ notFinite i
+pub named-not-finite : (i : ℕ) (r : Step) → isNotFinite r ≡ true → numberOf cumulus i r ≡ notFinite cumulus i
 named-not-finite i (Whole z) e = absurd (true≢false (sym e))
 named-not-finite i NotFinite e = refl
 named-not-finite i (Outside x) e = absurd (true≢false (sym e))
 
-pub named-outside : (i : ℕ) (r : Step) → isOutside r ≡ true → numberOf i r ≡ outside i
+pub named-outside : (i : ℕ) (r : Step) → isOutside r ≡ true → numberOf cumulus i r ≡ outside cumulus i
 named-outside i (Whole z) e = absurd (true≢false (sym e))
 named-outside i NotFinite e = absurd (true≢false (sym e))
 named-outside i (Outside x) e = refl
 
 module _ (s : ℕ → Step) where
   abbrev pub refusedNotFinite : ℕ → Refusal
-  refusedNotFinite i = numberOf i (s i) when isNotFinite (s i)
+  refusedNotFinite i = numberOf cumulus i (s i) when isNotFinite (s i)
 
   abbrev pub refusedOutside : ℕ → Refusal
-  refusedOutside i = numberOf i (s i) when isOutside (s i)
+  refusedOutside i = numberOf cumulus i (s i) when isOutside (s i)
 
   module _ (n : ℕ) where
-    pub not-finite-number : (first (notFinites n s) ≡ 0 → ⊥) → notFinite 0 ≤ first (notFinites n s)
+    pub not-finite-number : (first (notFinites cumulus n s) ≡ 0 → ⊥) → notFinite cumulus 0 ≤ first (notFinites cumulus n s)
     not-finite-number h = go (found refusedNotFinite n)
       where
-        go : Found refusedNotFinite n → notFinite 0 ≤ first (notFinites n s)
+        go : Found refusedNotFinite n → notFinite cumulus 0 ≤ first (notFinites cumulus n s)
         go (none all) = absurd (h (first-none refusedNotFinite n all))
         go (at k b before one) = omega (arith, first-at refusedNotFinite k before one n b, named-not-finite k (s k) one)
 
-    pub none-not-finite : first (notFinites n s) ≡ 0 → (i : ℕ) → i < n → isNotFinite (s i) ≡ false
+    pub none-not-finite : first (notFinites cumulus n s) ≡ 0 → (i : ℕ) → i < n → isNotFinite (s i) ≡ false
     none-not-finite e = go (found refusedNotFinite n)
       where
         go : Found refusedNotFinite n → (i : ℕ) → i < n → isNotFinite (s i) ≡ false
         go (none all) = all
         go (at k b before one) = absurd (omega (arith, first-at refusedNotFinite k before one n b, named-not-finite k (s k) one))
 
-    pub none-outside : first (outsides n s) ≡ 0 → (i : ℕ) → i < n → isOutside (s i) ≡ false
+    pub none-outside : first (outsides cumulus n s) ≡ 0 → (i : ℕ) → i < n → isOutside (s i) ≡ false
     none-outside e = go (found refusedOutside n)
       where
         go : Found refusedOutside n → (i : ℕ) → i < n → isOutside (s i) ≡ false
         go (none all) = all
         go (at k b before one) = absurd (omega (arith, first-at refusedOutside k before one n b, named-outside k (s k) one))
 
-    pub past-finite : first (notFinites n s) ≡ 0 → first (notFinites n s ++ outsides n s) ≡ first (outsides n s)
-    past-finite e = first-past refusedNotFinite n (none-not-finite e) (outsides n s)
+    pub past-finite : first (notFinites cumulus n s) ≡ 0 → first (notFinites cumulus n s ++ outsides cumulus n s) ≡ first (outsides cumulus n s)
+    past-finite e = first-past refusedNotFinite n (none-not-finite e) (outsides cumulus n s)
 
   -- ---- the reading handed back
   shut : (b : Bool) → (b && false) ≡ false
   shut true = refl
   shut false = refl
 
-  with-test : (n : ℕ) {b : Bool} → forOutside cumulus n ≡ b → readingFor cumulus s n ≡ cond b (handedBack (s (n - outside 0))) positiveZero
-  with-test n e = ap (λ b. cond b (handedBack (s (n - outside 0))) positiveZero) e
+  with-test : (n : ℕ) {b : Bool} → forOutside cumulus n ≡ b → readingFor cumulus s n ≡ cond b (handedBack (s (n - outside cumulus 0))) positiveZero
+  with-test n e = ap (λ b. cond b (handedBack (s (n - outside cumulus 0))) positiveZero) e
 
-  pub back-below : (n : ℕ) → n < outside 0 → readingFor cumulus s n ≡ positiveZero
-  back-below n h = with-test n (ap (λ b. b && ltb n (outside (cumulus .variables))) (lt-leb (outside 0) n h))
+  pub back-below : (n : ℕ) → n < outside cumulus 0 → readingFor cumulus s n ≡ positiveZero
+  back-below n h = with-test n (ap (λ b. b && ltb n (outside cumulus (cumulus .variables))) (lt-leb (outside cumulus 0) n h))
 
-  pub back-above : (n : ℕ) → outside (cumulus .variables) ≤ n → readingFor cumulus s n ≡ positiveZero
-  back-above n h = with-test n (ap (λ b. leb (outside 0) n && b) (le-ltb n (outside (cumulus .variables)) h) ∙ shut (leb (outside 0) n))
+  pub back-above : (n : ℕ) → outside cumulus (cumulus .variables) ≤ n → readingFor cumulus s n ≡ positiveZero
+  back-above n h = with-test n (ap (λ b. leb (outside cumulus 0) n && b) (le-ltb n (outside cumulus (cumulus .variables)) h) ∙ shut (leb (outside cumulus 0) n))
 
-  pub back-given : (k : ℕ) → k < cumulus .variables → readingFor cumulus s (outside k) ≡ handedBack (s k)
+  pub back-given : (k : ℕ) → k < cumulus .variables → readingFor cumulus s (outside cumulus k) ≡ handedBack (s k)
   back-given k h =
-      let e : outside k - outside 0 ≡ k = omega arith in
-      with-test (outside k) (ap₂ _&&_ (le-leb (outside 0) (outside k) (omega arith)) (lt-ltb (outside k) (outside (cumulus .variables)) (omega arith))) ∙ ap (λ j. handedBack (s j)) e
+      let e : outside cumulus k - outside cumulus 0 ≡ k = omega arith in
+      with-test (outside cumulus k) (ap₂ _&&_ (le-leb (outside cumulus 0) (outside cumulus k) (omega arith)) (lt-ltb (outside cumulus k) (outside cumulus (cumulus .variables)) (omega arith))) ∙ ap (λ j. handedBack (s j)) e
 
 -- it is that of one of the five variables
 pub back-agreed : (s r : ℕ → Step) → ((i : ℕ) → i < cumulus .variables → s i ≡ r i) → (n : ℕ) → readingFor cumulus s n ≡ readingFor cumulus r n
-back-agreed s r h n = go (decLt n (outside 0)) (decLt n (outside (cumulus .variables)))
+back-agreed s r h n = go (decLt n (outside cumulus 0)) (decLt n (outside cumulus (cumulus .variables)))
   where
-    go : Dec (n < outside 0) → Dec (n < outside (cumulus .variables)) → readingFor cumulus s n ≡ readingFor cumulus r n
+    go : Dec (n < outside cumulus 0) → Dec (n < outside cumulus (cumulus .variables)) → readingFor cumulus s n ≡ readingFor cumulus r n
     go (yes b) e = back-below s n b ∙ sym (back-below r n b)
     go (no a) (yes b) =
-        let q : n ≡ outside (n - outside 0) = omega arith in
-        ap (readingFor cumulus s) q ∙ back-given s (n - outside 0) (omega arith) ∙ ap handedBack (h (n - outside 0) (omega arith)) ∙ sym (back-given r (n - outside 0) (omega arith)) ∙ ap (readingFor cumulus r) (sym q)
+        let q : n ≡ outside cumulus (n - outside cumulus 0) = omega arith in
+        ap (readingFor cumulus s) q ∙ back-given s (n - outside cumulus 0) (omega arith) ∙ ap handedBack (h (n - outside cumulus 0) (omega arith)) ∙ sym (back-given r (n - outside cumulus 0) (omega arith)) ∙ ap (readingFor cumulus r) (sym q)
     go (no a) (no b) = back-above s n (omega arith) ∙ sym (back-above r n (omega arith))
 
 -- ---- the number
-small : (w g l : Bool) → first ((wrongTable when not w) ∷ (badLimits when not g) ∷ (tooHeavy when not l) ∷ []) < outside 0
+small : (w g l : Bool) → first ((wrongTable when not w) ∷ (badLimits when not g) ∷ (tooHeavy when not l) ∷ []) < outside cumulus 0
 unfolding first
 small false g l = omega arith
 small true false l = omega arith
 small true true false = omega arith
 small true true true = omega arith
 
-pub table-small : (t : List ℤ) → tableNumber t < outside 0
+pub table-small : (t : List ℤ) → tableNumber cumulus t < outside cumulus 0
 table-small t = small (eqb (length t) (tableLength cumulus)) (good cumulus t) (light cumulus t)
 
 module _ (t : List ℤ) (x : ℕ → Float) where
-  pub door-refused : (n : ℕ) → n ≡ tableNumber t → (n ≡ 0 → ⊥) → doorNumber cumulus t x ≡ n
+  pub door-refused : (n : ℕ) → n ≡ tableNumber cumulus t → (n ≡ 0 → ⊥) → doorNumber cumulus t x ≡ n
   unfolding doorNumber
-  door-refused n e h = first-apart (tableRefusals t) (notFinites (cumulus .variables) (stepAt t x) ++ outsides (cumulus .variables) (stepAt t x)) (λ z. h (e ∙ z)) ∙ sym e
+  door-refused n e h = first-apart (tableRefusals cumulus t) (notFinites cumulus (cumulus .variables) (stepAt cumulus t x) ++ outsides cumulus (cumulus .variables) (stepAt cumulus t x)) (λ z. h (e ∙ z)) ∙ sym e
 
   pub door-sound : length t ≡ tableLength cumulus → (good cumulus t ≡ true) × (light cumulus t ≡ true)
-      → doorNumber cumulus t x ≡ first (notFinites (cumulus .variables) (stepAt t x) ++ outsides (cumulus .variables) (stepAt t x))
+      → doorNumber cumulus t x ≡ first (notFinites cumulus (cumulus .variables) (stepAt cumulus t x) ++ outsides cumulus (cumulus .variables) (stepAt cumulus t x))
   unfolding doorNumber
   door-sound a g = first-skip wrongTable _ (eq-eqb (length t) (tableLength cumulus) a) ∙ first-skip badLimits _ (g .0) ∙ first-skip tooHeavy _ (g .1)
 
@@ -135,14 +135,14 @@ module _ (t : List ℤ) (x : ℕ → Float) where
   unfolding doorValue
   value-done e b = ap (λ n. unlessRefused n (value b) positiveZero) e
 
-  pub reading-is : (n : ℕ) → doorNumber cumulus t x ≡ n → doorReading cumulus t x ≡ readingFor cumulus (stepAt t x) n
+  pub reading-is : (n : ℕ) → doorNumber cumulus t x ≡ n → doorReading cumulus t x ≡ readingFor cumulus (stepAt cumulus t x) n
   unfolding doorReading
-  reading-is n e = ap (readingFor cumulus (stepAt t x)) e
+  reading-is n e = ap (readingFor cumulus (stepAt cumulus t x)) e
 
-  pub refused-answer : (n : ℕ) (back : Float) → doorNumber cumulus t x ≡ n → 0 < n → readingFor cumulus (stepAt t x) n ≡ back → refusedWith n back ≡ doorAnswer t x
+  pub refused-answer : (n : ℕ) (back : Float) → doorNumber cumulus t x ≡ n → 0 < n → readingFor cumulus (stepAt cumulus t x) n ≡ back → refusedWith n back ≡ doorAnswer t x
   refused-answer n back e h r = λ i.
       answerWith (sym e i) (sym (reading-is n e ∙ r) i) (λ b. sym (zero-refused n e h b) i)
 
   pub done-answer : doorNumber cumulus t x ≡ 0 → answerWith 0 positiveZero value ≡ doorAnswer t x
   done-answer e = λ i.
-      answerWith (sym e i) (sym (reading-is 0 e ∙ back-below (stepAt t x) 0 (omega arith)) i) (λ b. sym (value-done e b) i)
+      answerWith (sym e i) (sym (reading-is 0 e ∙ back-below (stepAt cumulus t x) 0 (omega arith)) i) (λ b. sym (value-done e b) i)

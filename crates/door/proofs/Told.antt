@@ -16,6 +16,7 @@ use lib.Signed.{leZ}
 use lib.Ieee.{Float, nan, inf, fin, isNan}
 use lib.Ieee.Scale.{finite}
 use Rattle.polynomials.specs.Sum.{listed}
+use Rattle.layout.specs.Shape.{cumulus}
 use Rattle.layout.specs.Refusals.{Refusal, first, outside}
 use Rattle.limits.proofs.Firsts.{first-none, first-at}
 use Rattle.tables.proofs.Steps.{first-apart}
@@ -82,20 +83,20 @@ first-same f g n h e = go (found f n)
     go (at k b before one) =
         first-at f k before one n b ∙ e k one ∙ sym (first-at g k (λ i m. sym (h i (omega arith)) ∙ before i m) (sym (h k b) ∙ one) n b)
 
-module _ (s : ℕ → Step) (n i : ℕ) (h : outside i < notFinite 0) (e : first (notFinites n s ++ outsides n s) ≡ outside i) where
-  all-finite : first (notFinites n s) ≡ 0
-  all-finite = go (decLt 0 (first (notFinites n s)))
+module _ (s : ℕ → Step) (n i : ℕ) (h : outside cumulus i < notFinite cumulus 0) (e : first (notFinites cumulus n s ++ outsides cumulus n s) ≡ outside cumulus i) where
+  all-finite : first (notFinites cumulus n s) ≡ 0
+  all-finite = go (decLt 0 (first (notFinites cumulus n s)))
     where
-      go : Dec (0 < first (notFinites n s)) → first (notFinites n s) ≡ 0
+      go : Dec (0 < first (notFinites cumulus n s)) → first (notFinites cumulus n s) ≡ 0
       go (no b) = omega arith
       go (yes b) =
-          let apart : first (notFinites n s) ≡ 0 → ⊥ = λ z. omega arith in
-          absurd (omega (arith, first-apart (notFinites n s) (outsides n s) apart, not-finite-number s n apart))
+          let apart : first (notFinites cumulus n s) ≡ 0 → ⊥ = λ z. omega arith in
+          absurd (omega (arith, first-apart (notFinites cumulus n s) (outsides cumulus n s) apart, not-finite-number s n apart))
 
   pub outside-found : isOutside (s i) ≡ true
   outside-found = go (found (refusedOutside s) n)
     where
-      number : first (outsides n s) ≡ outside i
+      number : first (outsides cumulus n s) ≡ outside cumulus i
       number = sym (past-finite s n all-finite) ∙ e
 
       go : Found (refusedOutside s) n → isOutside (s i) ≡ true

@@ -37,16 +37,16 @@ whole-step x lowest highest r (is-not-finite n) a b = absurd (true≢false a)
 whole-step x lowest highest r (is-outside f p) a b = absurd (true≢false b)
 whole-step x lowest highest r (is-whole f l g) a b = record { is = refl; low = l; high = g }
 
-module _ (t : List ℤ) (x : ℕ → Float) (finite : first (notFinites (cumulus .variables) (stepAt t x)) ≡ 0) (within : first (outsides (cumulus .variables) (stepAt t x)) ≡ 0) (i : ℕ) (h : i < cumulus .variables) where
-  rounded : Rounded (x i) (lowest t i) (highest t i) (stepAt t x i)
+module _ (t : List ℤ) (x : ℕ → Float) (finite : first (notFinites cumulus (cumulus .variables) (stepAt cumulus t x)) ≡ 0) (within : first (outsides cumulus (cumulus .variables) (stepAt cumulus t x)) ≡ 0) (i : ℕ) (h : i < cumulus .variables) where
+  rounded : Rounded (x i) (lowest cumulus t i) (highest cumulus t i) (stepAt cumulus t x i)
   rounded =
-      whole-step (x i) (lowest t i) (highest t i) (stepAt t x i) (stepped (x i) (lowest t i) (highest t i)) (none-not-finite (stepAt t x) (cumulus .variables) finite i h)
-      (none-outside (stepAt t x) (cumulus .variables) within i h)
+      whole-step (x i) (lowest cumulus t i) (highest cumulus t i) (stepAt cumulus t x i) (stepped (x i) (lowest cumulus t i) (highest cumulus t i)) (none-not-finite (stepAt cumulus t x) (cumulus .variables) finite i h)
+      (none-outside (stepAt cumulus t x) (cumulus .variables) within i h)
 
-  pub step-whole : stepAt t x i ≡ Whole (roundedAll x i)
+  pub step-whole : stepAt cumulus t x i ≡ Whole (roundedAll x i)
   step-whole = rounded .is
 
-  pub rounded-inside : inside t (roundedAll x) i ≡ true
+  pub rounded-inside : inside cumulus t (roundedAll x) i ≡ true
   rounded-inside = &&-both (fact-leZ (rounded .low)) (fact-leZ (rounded .high))
 
 -- ---- the five variables

@@ -29,15 +29,15 @@ abbrev pub roundedAll : (ℕ → Float) → ℕ → ℤ
 roundedAll x i = wholeOf (x i)
 
 -- the step of each, within the limits of its variable
-abbrev pub stepAt : List ℤ → (ℕ → Float) → ℕ → Step
-stepAt t x i = stepOf (x i) (lowest t i) (highest t i)
+abbrev pub stepAt : Shape → List ℤ → (ℕ → Float) → ℕ → Step
+stepAt S t x i = stepOf (x i) (lowest S t i) (highest S t i)
 
--- the refusals of n steps: of those that are not finite, and of those that are outside
-abbrev pub notFinites : ℕ → (ℕ → Step) → List Refusal
-notFinites n s = listed n (λ i. numberOf i (s i) when isNotFinite (s i))
+-- the refusals of the first n steps: of those that are not finite, and of those that are outside
+abbrev pub notFinites : Shape → ℕ → (ℕ → Step) → List Refusal
+notFinites S n s = listed n (λ i. numberOf S i (s i) when isNotFinite (s i))
 
-abbrev pub outsides : ℕ → (ℕ → Step) → List Refusal
-outsides n s = listed n (λ i. numberOf i (s i) when isOutside (s i))
+abbrev pub outsides : Shape → ℕ → (ℕ → Step) → List Refusal
+outsides S n s = listed n (λ i. numberOf S i (s i) when isOutside (s i))
 
 -- what may be refused, in order
 abbrev pub doorRefusals : Shape → List ℤ → (ℕ → Float) → List Refusal
@@ -45,26 +45,26 @@ doorRefusals S t x =
     (wrongTable when not (eqb (length t) (tableLength S)))
     ∷ (badLimits when not (good S t))
     ∷ (tooHeavy when not (light S t))
-    ∷ (notFinites (S .variables) (stepAt t x) ++ outsides (S .variables) (stepAt t x))
+    ∷ (notFinites S (S .variables) (stepAt S t x) ++ outsides S (S .variables) (stepAt S t x))
 
 -- the number given back
 unfoldable pub doorNumber : Shape → List ℤ → (ℕ → Float) → ℕ
 doorNumber S t x = first (doorRefusals S t x)
 
--- n is the number of a reading outside its limits
+-- n is the number of a reading outside its limits, in a table whose variables are named one after another
 abbrev pub forOutside : Shape → ℕ → Bool
-forOutside S n = leb (outside 0) n && ltb n (outside (S .variables))
+forOutside S n = leb (outside S 0) n && ltb n (outside S (S .variables))
 
 -- the reading handed back: that of the variable which the number n names as outside, and positive zero with any other number
 abbrev pub readingFor : Shape → (ℕ → Step) → ℕ → Float
-readingFor S s n = cond (forOutside S n) (handedBack (s (n - outside 0))) positiveZero
+readingFor S s n = cond (forOutside S n) (handedBack (s (n - outside S 0))) positiveZero
 
 unfoldable pub doorReading : Shape → List ℤ → (ℕ → Float) → Float
-doorReading S t x = readingFor S (stepAt t x) (doorNumber S t x)
+doorReading S t x = readingFor S (stepAt S t x) (doorNumber S t x)
 
 -- the float of block b: the whole-number answer at the rounded readings, whose piece they choose; positive zero on a refusal
 abbrev pub floatAt : Shape → List ℤ → (ℕ → ℤ) → ℕ → Float
-floatAt S t w b = floatOf (total (coefficient S t b (pieceAt t w)) w)
+floatAt S t w b = floatOf (total (coefficient S t b (pieceAt S t w)) w)
 
 unfoldable pub doorValue : Shape → List ℤ → (ℕ → Float) → ℕ → Float
 doorValue S t x b = unlessRefused (doorNumber S t x) (floatAt S t (roundedAll x) b) positiveZero

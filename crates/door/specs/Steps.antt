@@ -5,22 +5,23 @@ use Prim.Native.Nat.{ℕ, _+_}
 use lib.IntN.{ℤ, pos}
 use lib.ListN.{getD}
 use lib.Ieee.{Float, fin}
+use Rattle.layout.specs.Shape.{Shape}
 use Rattle.layout.specs.Refusals.{done, outside}
 use Rattle.rounding.specs.declared.Step.{Step}
 use Rattle.rounding.specs.declared.Step.the-variants.{Whole, NotFinite, Outside}
 
--- the float of variable i is not finite
-abbrev pub notFinite : ℕ → ℕ
-notFinite i = 21 + i
+-- the float of variable i is not finite: 21 for alpha, 22 for beta, 23 for xi, 24 for eta and 25 for zeta
+abbrev pub notFinite : Shape → ℕ → ℕ
+notFinite S i = 21 + S .name i
 
 abbrev pub positiveZero : Float
 positiveZero = fin false 0 (pos 0)
 
 -- the number that the step of variable i gives
-abbrev pub numberOf : ℕ → Step → ℕ
-numberOf i (Whole z) = done
-numberOf i NotFinite = notFinite i
-numberOf i (Outside x) = outside i
+abbrev pub numberOf : Shape → ℕ → Step → ℕ
+numberOf S i (Whole z) = done
+numberOf S i NotFinite = notFinite S i
+numberOf S i (Outside x) = outside S i
 
 -- the float that it hands back
 abbrev pub handedBack : Step → Float

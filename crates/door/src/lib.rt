@@ -4,6 +4,7 @@ ghost use mathlib.Core.Bool.{true};
 ghost use Prim.Native.Nat.{ℕ, _<_};
 ghost use Rattle.polynomials.specs.Sum.{listed};
 ghost use Rattle.polynomials.specs.Groups.{total};
+ghost use Rattle.layout.specs.declared.Model.the-variants.{Cumulus};
 ghost use Rattle.layout.specs.Shape.{cumulus};
 ghost use Rattle.layout.specs.Limits.{allInRange};
 ghost use Rattle.layout.specs.Blocks.{coefficient, piece as pieceOf};
@@ -13,7 +14,8 @@ ghost use Rattle.rounding.specs.Answer.{floatOf};
 ghost use Rattle.blocks.specs.Ready.{Valued};
 ghost use Rattle.door.specs.Steps.{positiveZero, wholeIn, stepsOf};
 ghost use Rattle.door.specs.Door.{floats, stepAt, notFinites, outsides, readingFor, answerWith, refusedWith, doorAnswer};
-use layout::VARIABLES;
+use layout::Model;
+use layout::cumulus_one::VARIABLES;
 use layout::refusals::DONE;
 use layout::refusals::NOT_FINITE;
 use layout::refusals::OUTSIDE;
@@ -53,8 +55,8 @@ fn refused(number: u64, reading: f64) -> Answer
 
 // The step of each reading.
 fn steps_of(limits: Limits, readings: [f64; VARIABLES]) -> [Step; VARIABLES]
-    requires { ⌜ allInRange cumulus (limits .numbers) ≡ true ⌝ }
-    ensures { λ r. ⌜ r ≡ listed (cumulus .variables) (stepAt (limits .numbers) (floats readings)) ⌝ }
+    requires { ⌜ (limits .model ≡ Cumulus) × (allInRange cumulus (limits .numbers) ≡ true) ⌝ }
+    ensures { λ r. ⌜ r ≡ listed (cumulus .variables) (stepAt cumulus (limits .numbers) (floats readings)) ⌝ }
 {
     let mut steps = [Step::NotFinite; VARIABLES];
     let mut i: usize = 0;
@@ -68,7 +70,7 @@ fn steps_of(limits: Limits, readings: [f64; VARIABLES]) -> [Step; VARIABLES]
 
 // The refusal of the first reading that is not finite; 0 where all are finite.
 fn not_finite(steps: [Step; VARIABLES]) -> u64
-    ensures { λ r. ⌜ r ≡ first (notFinites (cumulus .variables) (stepsOf steps)) ⌝ }
+    ensures { λ r. ⌜ r ≡ first (notFinites cumulus (cumulus .variables) (stepsOf steps)) ⌝ }
 {
     let mut i: usize = 0;
     while i < VARIABLES {
@@ -83,7 +85,7 @@ fn not_finite(steps: [Step; VARIABLES]) -> u64
 
 // The refusal of the first reading outside its limits, with the reading; number 0 where all are inside.
 fn outside(steps: [Step; VARIABLES]) -> Answer
-    ensures { λ r. ⌜ r ≡ refusedWith (first (outsides (cumulus .variables) (stepsOf steps))) (readingFor cumulus (stepsOf steps) (first (outsides (cumulus .variables) (stepsOf steps)))) ⌝ }
+    ensures { λ r. ⌜ r ≡ refusedWith (first (outsides cumulus (cumulus .variables) (stepsOf steps))) (readingFor cumulus (stepsOf steps) (first (outsides cumulus (cumulus .variables) (stepsOf steps)))) ⌝ }
 {
     let mut i: usize = 0;
     while i < VARIABLES {
@@ -123,15 +125,16 @@ fn wholes_in(steps: [Step; VARIABLES]) -> [i64; VARIABLES]
 
 // The float of one coefficient at whole readings, in the low piece (0) or the high one.
 fn float_at(table: &[i64], block: usize, piece: usize, state: [i64; VARIABLES]) -> f64
-    requires { ⌜ Valued (now table) block piece state ⌝ }
+    requires { ⌜ Valued cumulus (now table) block piece state ⌝ }
     ensures { λ r. ⌜ r ≡ floatOf (total (coefficient cumulus (now (table .entry)) block (pieceOf piece)) (wholes state)) ⌝ }
 {
-    rounding::answer(blocks::coefficient_at(table, block, piece, state))
+    let value = blocks::coefficient_at(Model::Cumulus, table, block, piece, &state);
+    rounding::answer(value)
 }
 
 // The six floats at whole readings.
 fn answered(table: &[i64], piece: usize, state: [i64; VARIABLES]) -> Answer
-    requires { ⌜ ((b : ℕ) → b < cumulus .blocks → Valued (now table) b piece state) ⌝ }
+    requires { ⌜ ((b : ℕ) → b < cumulus .blocks → Valued cumulus (now table) b piece state) ⌝ }
     ensures { λ r. ⌜ r ≡ answerWith 0 positiveZero (λ b. floatOf (total (coefficient cumulus (now (table .entry)) b (pieceOf piece)) (wholes state))) ⌝ }
 {
     Answer {
@@ -151,11 +154,11 @@ fn answered(table: &[i64], piece: usize, state: [i64; VARIABLES]) -> Answer
 pub fn read_floats(table: &[i64], readings: [f64; VARIABLES]) -> Answer
     ensures { λ r. ⌜ r ≡ doorAnswer (now (table .entry)) (floats readings) ⌝ }
 {
-    let unsound = refusal_of(table);
+    let unsound = refusal_of(Model::Cumulus, table);
     if unsound != DONE {
         return refused(unsound, 0.0);
     }
-    let limits = Limits::of(table);
+    let limits = Limits::of(Model::Cumulus, table);
     let steps = steps_of(limits, readings);
     let unread = not_finite(steps);
     if unread != DONE {
@@ -166,8 +169,6 @@ pub fn read_floats(table: &[i64], readings: [f64; VARIABLES]) -> Answer
         return past;
     }
     let state = wholes_in(steps);
-    if limits.in_low_piece(state[0]) {
-        return answered(table, 0, state);
-    }
-    answered(table, 1, state)
+    let piece = limits.piece(state[0]);
+    answered(table, piece, state)
 }

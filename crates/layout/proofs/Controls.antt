@@ -3,7 +3,7 @@
 use mathlib.Core.Path.{_≡_, refl}
 use mathlib.Core.Bool.{Bool, true, false}
 use mathlib.Core.List.{List, [], _∷_, _++_, map}
-use Prim.Native.Nat.{ℕ, _-_}
+use Prim.Native.Nat.{ℕ, _-_, _*_}
 use lib.IntN.{ℤ, pos, negℤ, pow, one}
 use lib.ListN.{length, replicate, getD}
 use Rattle.polynomials.specs.Sum.{sum, listed}
@@ -38,16 +38,16 @@ starts : map (blockStart cumulus) (0 ∷ 1 ∷ 2 ∷ 3 ∷ 4 ∷ 5 ∷ []) ≡ 1
 unfolding kindsLength below
 starts = refl
 
-lowests : listed 5 lowestPlace ≡ 0 ∷ 3 ∷ 5 ∷ 7 ∷ 9 ∷ []
+lowests : listed 5 (lowestPlace cumulus) ≡ 0 ∷ 3 ∷ 5 ∷ 7 ∷ 9 ∷ []
 unfolding listed
 lowests = refl
 
-highests : listed 5 highestPlace ≡ 2 ∷ 4 ∷ 6 ∷ 8 ∷ 10 ∷ []
+highests : listed 5 (highestPlace cumulus) ≡ 2 ∷ 4 ∷ 6 ∷ 8 ∷ 10 ∷ []
 unfolding listed
 highests = refl
 
 -- alpha owns its cut too
-owners : listed 11 owner ≡ 0 ∷ 0 ∷ 0 ∷ 1 ∷ 1 ∷ 2 ∷ 2 ∷ 3 ∷ 3 ∷ 4 ∷ 4 ∷ []
+owners : listed 11 (owner cumulus) ≡ 0 ∷ 0 ∷ 0 ∷ 1 ∷ 1 ∷ 2 ∷ 2 ∷ 3 ∷ 3 ∷ 4 ∷ 4 ∷ []
 unfolding listed
 owners = refl
 
@@ -65,17 +65,14 @@ groups-read : map (λ p. total (coefficient cumulus oneOfEach 0 p) (readings (po
 unfolding sum powers below term evaluated total kindsLength groups chosen coefficient pow one
 groups-read = refl
 
--- ════ a small shape: two variables u and v, and two blocks, each with a low and a high group of degree 1 and a number that counts in both pieces
+-- ════ a small shape: two variables u and v, which are alpha and xi, and two blocks, each with a low and a high group of degree 1 and a number that counts in both pieces
 abbrev smallShape : Shape
 smallShape =
     record {
       variables = 2;
+      name = λ i. 2 * i;
       blocks = 2;
-      kinds =
-          record { u = 0; v = 1; degree = 1; low = true; high = false }
-          ∷ record { u = 0; v = 1; degree = 1; low = false; high = true }
-          ∷ record { u = 1; v = 0; degree = 0; low = true; high = true }
-          ∷ [];
+      kinds = record { u = 0; v = 1; degree = 1 } ∷ record { u = 0; v = 1; degree = 1 } ∷ record { u = 1; v = 0; degree = 0 } ∷ [];
     }
 
 -- its limits: lowest, cut and highest of u, lowest and highest of v
@@ -98,7 +95,7 @@ limits-good = refl
 
 -- of u below and above the cut, then of v
 abbrev reaches : List ℤ → List ℕ
-reaches t = reach t low 0 ∷ reach t high 0 ∷ reach t low 1 ∷ reach t high 1 ∷ []
+reaches t = reach smallShape t low 0 ∷ reach smallShape t high 0 ∷ reach smallShape t low 1 ∷ reach smallShape t high 1 ∷ []
 
 -- -10 to -8 and -7 to 5, -5 to 0; 1 to 6 and 7 to 9, -1 to 4; 0 to 0 and 1 to 1, 0 to 0
 reaches-worked : map reaches (bounds (negℤ (pos 10)) (negℤ (pos 8)) (pos 5) (negℤ (pos 5)) (pos 0)
@@ -107,8 +104,8 @@ reaches-worked : map reaches (bounds (negℤ (pos 10)) (negℤ (pos 8)) (pos 5) 
     ∷ []) ≡ (10 ∷ 7 ∷ 5 ∷ 5 ∷ []) ∷ (6 ∷ 9 ∷ 4 ∷ 4 ∷ []) ∷ (1 ∷ 1 ∷ 1 ∷ 1 ∷ []) ∷ []
 reaches-worked = refl
 
--- alpha from -10 to -8 and from -7 to 5, beta from -5 to 0
-reaches-listed : listedReaches smallShape (reach (bounds (negℤ (pos 10)) (negℤ (pos 8)) (pos 5) (negℤ (pos 5)) (pos 0))) ≡ 10 ∷ 7 ∷ 5 ∷ []
+-- u from -10 to -8 and from -7 to 5, v from -5 to 0; there is room for six
+reaches-listed : listedReaches (reach smallShape (bounds (negℤ (pos 10)) (negℤ (pos 8)) (pos 5) (negℤ (pos 5)) (pos 0))) ≡ 10 ∷ 7 ∷ 5 ∷ 1 ∷ 1 ∷ 1 ∷ []
 unfolding listed
 reaches-listed = refl
 
@@ -179,7 +176,7 @@ sound-or-not = refl
 
 -- ════ the numbers given back, and their order
 -- readings at the limits are inside, one past them outside
-ends-inside : map (λ u. inside wide (readings (u ∷ [])) 0) (negℤ (pos 11) ∷ negℤ (pos 10) ∷ pos 5 ∷ pos 6 ∷ []) ≡ false ∷ true ∷ true ∷ false ∷ []
+ends-inside : map (λ u. inside smallShape wide (readings (u ∷ [])) 0) (negℤ (pos 11) ∷ negℤ (pos 10) ∷ pos 5 ∷ pos 6 ∷ []) ≡ false ∷ true ∷ true ∷ false ∷ []
 ends-inside = refl
 
 -- a variable that has no reading reads 0
@@ -204,7 +201,7 @@ read-order : readGives [] (pos 6 ∷ pos 1 ∷ []) 0
     ∷ readGives (heavy wide 20 17 20 17) (pos 5 ∷ pos 1 ∷ []) 2
     ∷ readGives (heavy wide 20 17 20 17) (pos 5 ∷ pos 0 ∷ []) 2
     ∷ []
-    ≡ 1 ∷ 2 ∷ 3 ∷ 4 ∷ 11 ∷ 12 ∷ 0 ∷ []
+    ≡ 1 ∷ 2 ∷ 3 ∷ 4 ∷ 11 ∷ 13 ∷ 0 ∷ []
 unfolding readGives
 read-order = refl
 

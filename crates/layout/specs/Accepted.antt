@@ -17,7 +17,7 @@ pub record ReadAccepted (S : Shape) (t : List ℤ) (x : ℕ → ℤ) (out : List
   pub output : length out ≡ S .blocks
   pub limits : good S t ≡ true
   pub weights : light S t ≡ true
-  pub readings : (i : ℕ) → i < S .variables → inside t x i ≡ true
+  pub readings : (i : ℕ) → i < S .variables → inside S t x i ≡ true
 
 -- the table t moved by s in variable i, with the output out
 pub record MoveAccepted (S : Shape) (t : List ℤ) (i : ℕ) (s : ℤ) (out : List ℤ) : Type 0 where

@@ -1,22 +1,18 @@
--- Reaches in a list, as the code hands them on.
+-- Reaches in a list, as the code hands them on, in room for those of any model.
 use mathlib.Core.List.{List}
 use Prim.Native.Nat.{ℕ, zero, suc}
 use lib.ListN.{getD}
 use Rattle.polynomials.specs.Sum.{listed}
-use Rattle.layout.specs.Shape.{Shape}
+use Rattle.layout.specs.Numbers.{reachesRoom}
 use Rattle.layout.specs.Blocks.{Piece, low, high}
-
--- two of variable 0, and one of each other
-abbrev pub reachCount : Shape → ℕ
-reachCount S = suc (S .variables)
 
 -- that of variable 0 in the low piece, then those of every variable in the high piece
 abbrev pub reachAt : (Piece → ℕ → ℕ) → ℕ → ℕ
 reachAt r zero = r low 0
 reachAt r (suc i) = r high i
 
-abbrev pub listedReaches : Shape → (Piece → ℕ → ℕ) → List ℕ
-listedReaches S r = listed (reachCount S) (reachAt r)
+abbrev pub listedReaches : (Piece → ℕ → ℕ) → List ℕ
+listedReaches r = listed reachesRoom (reachAt r)
 
 -- the reaches that such a list holds: beside variable 0 the pieces have the same
 abbrev pub reachesOf : List ℕ → Piece → ℕ → ℕ

@@ -1,31 +1,138 @@
-// Where the numbers of a Cumulus One table stand, and the numbers given back.
+// Where the numbers of a model's table stand, and the numbers given back.
+ghost use mathlib.Core.Path.{_≡_};
+ghost use Prim.Native.Nat.{_≤_, _<_};
+ghost use lib.ListN.{length};
+ghost use Rattle.polynomials.specs.Limits.{highestDegree};
+ghost use Rattle.polynomials.specs.Order.{size};
+ghost use Rattle.layout.specs.Shape.{shape, kindAt, limitsLength, blockLength, blockStart, tableLength};
+ghost use Rattle.layout.specs.Refusals.{outside};
+
+pub mod cumulus_one;
+pub mod gtm_longitudinal;
 pub mod refusals;
 
-// The variables alpha, beta, xi, eta and zeta, and the coefficients X, Y, Z, l, m and n, a block for each.
-pub const VARIABLES: usize = 5;
+use refusals::OUTSIDE;
 
-pub const BLOCKS: usize = 6;
+// Room for what any model has.
+pub const VARIABLES_ROOM: usize = cumulus_one::VARIABLES;
 
-// The limits come first: lowest and highest of each variable, and the cut of alpha.
-pub const LIMITS: usize = 1 + 2 * VARIABLES;
+pub const LIMITS_ROOM: usize = cumulus_one::LIMITS;
 
-// Then the blocks. In a block: the low and the high group in alpha and eta, then the side groups in beta and xi and in beta and zeta.
-pub const PITCH_DEGREE: usize = 3;
+// Of variable 0 a reach for each piece, and one of each other variable.
+pub const REACHES_ROOM: usize = 1 + VARIABLES_ROOM;
 
-pub const SIDE_DEGREE: usize = 4;
+// The models whose tables there are.
+pub enum Model {
+    Cumulus,
+    Gtm,
+}
 
-// A group has its numbers of degree 0, 1 and so on, one more for each.
-pub const PITCH: usize = (PITCH_DEGREE + 1) * (PITCH_DEGREE + 2) / 2;
+// One group of every block: its two variables by their numbers, and its degree.
+pub struct Kind {
+    pub u: usize,
+    pub v: usize,
+    pub degree: usize,
+}
 
-pub const SIDE: usize = (SIDE_DEGREE + 1) * (SIDE_DEGREE + 2) / 2;
+impl Kind {
+    // How many numbers such a group has: of degree 0, 1 and so on, one more for each.
+    pub fn size(self) -> usize
+        requires { ⌜ self .degree ≤ highestDegree ⌝ }
+        ensures { λ r. ⌜ r ≡ size (self .degree) ⌝ }
+    {
+        let n = self.degree + 1;
+        n * (n + 1) / 2
+    }
+}
 
-pub const XI_START: usize = PITCH + PITCH;
+impl Model {
+    // How many variables there are.
+    pub fn variables(self) -> usize
+        ensures { λ r. ⌜ r ≡ shape self .variables ⌝ }
+    {
+        match self {
+            Model::Cumulus => cumulus_one::VARIABLES,
+            Model::Gtm => gtm_longitudinal::VARIABLES,
+        }
+    }
 
-pub const ZETA_START: usize = XI_START + SIDE;
+    // How many blocks a table has.
+    pub fn blocks(self) -> usize
+        ensures { λ r. ⌜ r ≡ shape self .blocks ⌝ }
+    {
+        match self {
+            Model::Cumulus => cumulus_one::BLOCKS,
+            Model::Gtm => gtm_longitudinal::BLOCKS,
+        }
+    }
 
-pub const BLOCK: usize = ZETA_START + SIDE;
+    // How many groups a block has.
+    pub fn groups(self) -> usize
+        ensures { λ r. ⌜ r ≡ length (shape self .kinds) ⌝ }
+    {
+        match self {
+            Model::Cumulus => cumulus_one::GROUPS,
+            Model::Gtm => gtm_longitudinal::GROUPS,
+        }
+    }
 
-pub const TABLE: usize = LIMITS + BLOCK * BLOCKS;
+    // How many numbers the limits are, which come first in a table.
+    pub fn limits(self) -> usize
+        ensures { λ r. ⌜ r ≡ limitsLength (shape self) ⌝ }
+    {
+        match self {
+            Model::Cumulus => cumulus_one::LIMITS,
+            Model::Gtm => gtm_longitudinal::LIMITS,
+        }
+    }
 
-// The reaches of a table: that of alpha in the low piece, then those of every variable in the high piece.
-pub const REACHES: usize = 1 + VARIABLES;
+    // How many numbers a block has.
+    pub fn block(self) -> usize
+        ensures { λ r. ⌜ r ≡ blockLength (shape self) ⌝ }
+    {
+        match self {
+            Model::Cumulus => cumulus_one::BLOCK,
+            Model::Gtm => gtm_longitudinal::BLOCK,
+        }
+    }
+
+    // How many numbers a table has.
+    pub fn table(self) -> usize
+        ensures { λ r. ⌜ r ≡ tableLength (shape self) ⌝ }
+    {
+        match self {
+            Model::Cumulus => cumulus_one::TABLE,
+            Model::Gtm => gtm_longitudinal::TABLE,
+        }
+    }
+
+    // Where a block starts.
+    pub fn start(self, block: usize) -> usize
+        requires { ⌜ block < shape self .blocks ⌝ }
+        ensures { λ r. ⌜ r ≡ blockStart (shape self) block ⌝ }
+    {
+        self.limits() + self.block() * block
+    }
+
+    // The refusal of a reading of a variable that is outside its limits.
+    pub fn outside(self, variable: usize) -> u64
+        requires { ⌜ variable < shape self .variables ⌝ }
+        ensures { λ r. ⌜ r ≡ outside (shape self) variable ⌝ }
+    {
+        match self {
+            Model::Cumulus => OUTSIDE + variable as u64,
+            Model::Gtm => OUTSIDE + 3 * variable as u64,
+        }
+    }
+
+    // A group of every block: the low one, the high one, then those that count in both pieces.
+    pub fn kind(self, group: usize) -> Kind
+        requires { ⌜ group < length (shape self .kinds) ⌝ }
+        ensures { λ r. ⌜ r ≡ kindAt (shape self) group ⌝ }
+    {
+        match self {
+            Model::Cumulus => cumulus_one::kind(group),
+            Model::Gtm => gtm_longitudinal::kind(group),
+        }
+    }
+}

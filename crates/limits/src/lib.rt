@@ -1,24 +1,26 @@
 // The limits of the readings: read from a table, tested, moved, and held against a reading.
-use layout::LIMITS;
-use layout::REACHES;
-use layout::VARIABLES;
+use layout::LIMITS_ROOM;
+use layout::Model;
+use layout::REACHES_ROOM;
+use layout::VARIABLES_ROOM;
 use layout::refusals::DONE;
-use layout::refusals::OUTSIDE;
 ghost use mathlib.Core.Path.{_≡_};
-ghost use mathlib.Core.Bool.{true, not, _&&_};
-ghost use Prim.Native.Nat.{_≤_, _<_, max};
+ghost use mathlib.Core.Bool.{true, not, cond, _&&_};
+ghost use Prim.Native.Nat.{_-_, suc, _≤_, _<_, max};
+ghost use lib.Dec.{ltb};
 ghost use lib.IntN.{pos, natAbs};
 ghost use lib.ListN.{length, take, getD};
 ghost use lib.Signed.{leZ, ltZ};
 ghost use Rattle.polynomials.specs.Sum.{listed};
-ghost use Rattle.layout.specs.Shape.{cumulus, limitsLength};
-ghost use Rattle.layout.specs.Limits.{lowest, highest, cut, longestShift, allInRange, inOrder, good};
+ghost use Rattle.layout.specs.Shape.{shape, limitsLength};
+ghost use Rattle.layout.specs.Numbers.{variablesRoom, limitsRoom};
+ghost use Rattle.layout.specs.Limits.{every, lowest, highest, cut, longestShift, inRange, allInRange, inOrder, good};
 ghost use Rattle.layout.specs.Blocks.{piece as pieceOf};
 ghost use Rattle.layout.specs.Sound.{span, reach};
 ghost use Rattle.layout.specs.Reaches.{listedReaches};
 ghost use Rattle.layout.specs.Refusals.{outside, first, _when_};
 ghost use Rattle.layout.specs.Reading.{readings, inside};
-ghost use Rattle.layout.specs.Moving.{owner, movedLimit, movedLimits};
+ghost use Rattle.layout.specs.Moving.{owner, movedLimit};
 
 // The greatest limit that is in range.
 pub const MOST: i64 = 2000;
@@ -29,19 +31,10 @@ const FARTHEST: u64 = MOST as u64;
 // The cut of variable 0 stands between its lowest and its highest reading.
 const CUT: usize = 1;
 
-// The limits of the readings, as the table has them.
+// The first numbers of a model's table, as many as any model has limits: its own come first.
 pub struct Limits {
-    pub numbers: [i64; LIMITS],
-}
-
-// The variable that the limit at a place belongs to: up to the cut variable 0, then two places for each.
-fn owner(place: usize) -> usize
-    ensures { λ r. ⌜ r ≡ owner place ⌝ }
-{
-    if place <= CUT {
-        return 0;
-    }
-    (place - 1) / 2
+    pub model: Model,
+    pub numbers: [i64; LIMITS_ROOM],
 }
 
 // The larger of two magnitudes.
@@ -65,23 +58,26 @@ fn span(a: i64, b: i64) -> u64
 
 impl Limits {
     // The first numbers of a table.
-    pub fn of(table: &[i64]) -> Limits
-        requires { ⌜ limitsLength cumulus ≤ length (now table) ⌝ }
-        ensures { λ r. ⌜ r .numbers ≡ take (limitsLength cumulus) (now (table .entry)) ⌝ }
+    pub fn of(model: Model, table: &[i64]) -> Limits
+        requires { ⌜ limitsRoom ≤ length (now table) ⌝ }
+        ensures { λ r. ⌜ (r .model ≡ model) × (r .numbers ≡ take limitsRoom (now (table .entry))) ⌝ }
     {
-        let mut numbers: [i64; LIMITS] = [0; LIMITS];
+        let mut numbers: [i64; LIMITS_ROOM] = [0; LIMITS_ROOM];
         let mut k: usize = 0;
-        while k < LIMITS {
+        while k < LIMITS_ROOM {
             let number = table[k];
             numbers[k] = number;
             k += 1;
         }
-        Limits { numbers: numbers }
+        Limits {
+            model: model,
+            numbers: numbers,
+        }
     }
 
     // The limit at a place.
     fn at(self, place: usize) -> i64
-        requires { ⌜ place < limitsLength cumulus ⌝ }
+        requires { ⌜ place < limitsRoom ⌝ }
         ensures { λ r. ⌜ r ≡ getD (self .numbers) place (pos 0) ⌝ }
     {
         let numbers = self.numbers;
@@ -90,8 +86,8 @@ impl Limits {
 
     // The lowest reading of a variable.
     pub fn lowest(self, variable: usize) -> i64
-        requires { ⌜ variable < cumulus .variables ⌝ }
-        ensures { λ r. ⌜ r ≡ lowest (self .numbers) variable ⌝ }
+        requires { ⌜ variable < variablesRoom ⌝ }
+        ensures { λ r. ⌜ r ≡ lowest (shape (self .model)) (self .numbers) variable ⌝ }
     {
         if variable > 0 {
             return self.at(2 * variable + 1);
@@ -101,19 +97,38 @@ impl Limits {
 
     // The highest reading of a variable.
     pub fn highest(self, variable: usize) -> i64
-        requires { ⌜ variable < cumulus .variables ⌝ }
-        ensures { λ r. ⌜ r ≡ highest (self .numbers) variable ⌝ }
+        requires { ⌜ variable < variablesRoom ⌝ }
+        ensures { λ r. ⌜ r ≡ highest (shape (self .model)) (self .numbers) variable ⌝ }
     {
         self.at(2 * variable + 2)
     }
 
+    // The variable that the limit at a place belongs to: up to the cut variable 0, then two places for each.
+    fn owner(self, place: usize) -> usize
+        ensures { λ r. ⌜ r ≡ owner (shape (self .model)) place ⌝ }
+    {
+        if place <= CUT {
+            return 0;
+        }
+        (place - 1) / 2
+    }
+
+    // Whether the limit at a place lies in -2000..2000, or the model has none there.
+    fn place_in_range(self, place: usize) -> bool
+        requires { ⌜ place < limitsRoom ⌝ }
+        ensures { λ r. ⌜ r ≡ cond (ltb place (limitsLength (shape (self .model)))) (inRange (shape (self .model)) (self .numbers) place) true ⌝ }
+    {
+        let model = self.model;
+        (model.limits() <= place) | (whole::magnitude(self.at(place)) <= FARTHEST)
+    }
+
     // Whether each limit lies in -2000..2000.
     pub fn in_range(self) -> bool
-        ensures { λ r. ⌜ r ≡ allInRange cumulus (self .numbers) ⌝ }
+        ensures { λ r. ⌜ r ≡ allInRange (shape (self .model)) (self .numbers) ⌝ }
     {
         let mut k: usize = 0;
-        while k < LIMITS {
-            if whole::magnitude(self.at(k)) > FARTHEST {
+        while k < LIMITS_ROOM {
+            if !self.place_in_range(k) {
                 return false;
             }
             k += 1;
@@ -121,38 +136,53 @@ impl Limits {
         true
     }
 
-    // Whether the lowest reading of a variable is at most its highest.
+    // Whether the lowest reading of a variable is at most its highest, or the model has no such variable.
     fn in_order(self, variable: usize) -> bool
-        requires { ⌜ variable < cumulus .variables ⌝ }
-        ensures { λ r. ⌜ r ≡ inOrder (self .numbers) variable ⌝ }
+        requires { ⌜ variable < variablesRoom ⌝ }
+        ensures { λ r. ⌜ r ≡ cond (ltb variable (shape (self .model) .variables)) (inOrder (shape (self .model)) (self .numbers) variable) true ⌝ }
     {
+        let model = self.model;
+        if variable >= model.variables() {
+            return true;
+        }
         self.lowest(variable) <= self.highest(variable)
     }
 
     // Whether the cut leaves variable 0 a low and a high piece.
     fn cut_in_order(self) -> bool
-        ensures { λ r. ⌜ r ≡ (leZ (lowest (self .numbers) 0) (cut (self .numbers)) && ltZ (cut (self .numbers)) (highest (self .numbers) 0)) ⌝ }
+        ensures { λ r. ⌜ r ≡ (leZ (lowest (shape (self .model)) (self .numbers) 0) (cut (shape (self .model)) (self .numbers)) && ltZ (cut (shape (self .model)) (self .numbers)) (highest (shape (self .model)) (self .numbers) 0)) ⌝ }
     {
         let cut = self.at(CUT);
         (self.lowest(0) <= cut) & (cut < self.highest(0))
     }
 
+    // Whether the limits of every variable but the first are in order.
+    fn others_in_order(self) -> bool
+        ensures { λ r. ⌜ r ≡ every (shape (self .model) .variables - 1) (λ i. inOrder (shape (self .model)) (self .numbers) (suc i)) ⌝ }
+    {
+        self.in_order(1) & self.in_order(2) & self.in_order(3) & self.in_order(4)
+    }
+
     // Whether every limit is in range, and the limits of every variable are in order.
     pub fn good(self) -> bool
-        ensures { λ r. ⌜ r ≡ good cumulus (self .numbers) ⌝ }
+        ensures { λ r. ⌜ r ≡ good (shape (self .model)) (self .numbers) ⌝ }
     {
+        if !self.cut_in_order() {
+            return false;
+        }
+        if !self.others_in_order() {
+            return false;
+        }
         self.in_range()
-            & self.cut_in_order()
-            & (self.in_order(1) & self.in_order(2) & self.in_order(3) & self.in_order(4))
     }
 
     // The limit at a place once the datum of a variable is moved.
     fn moved_limit(self, variable: usize, shift: i64, place: usize) -> i64
-        requires { ⌜ (allInRange cumulus (self .numbers) ≡ true) × ((natAbs shift ≤ longestShift) × (place < limitsLength cumulus)) ⌝ }
-        ensures { λ r. ⌜ r ≡ movedLimit variable shift (self .numbers) place ⌝ }
+        requires { ⌜ (allInRange (shape (self .model)) (self .numbers) ≡ true) × ((natAbs shift ≤ longestShift) × ((variable < shape (self .model) .variables) × (place < limitsRoom))) ⌝ }
+        ensures { λ r. ⌜ r ≡ movedLimit (shape (self .model)) variable shift (self .numbers) place ⌝ }
     {
         let number = self.at(place);
-        if owner(place) == variable {
+        if self.owner(place) == variable {
             return number - shift;
         }
         number
@@ -160,23 +190,27 @@ impl Limits {
 
     // The limits with each of one variable less `shift`.
     pub fn moved(self, variable: usize, shift: i64) -> Limits
-        requires { ⌜ (allInRange cumulus (self .numbers) ≡ true) × (natAbs shift ≤ longestShift) ⌝ }
-        ensures { λ r. ⌜ r .numbers ≡ movedLimits cumulus variable shift (self .numbers) ⌝ }
+        requires { ⌜ (allInRange (shape (self .model)) (self .numbers) ≡ true) × ((natAbs shift ≤ longestShift) × (variable < shape (self .model) .variables)) ⌝ }
+        ensures { λ r. ⌜ (r .model ≡ self .model) × (r .numbers ≡ listed limitsRoom (movedLimit (shape (self .model)) variable shift (self .numbers))) ⌝ }
     {
-        let mut numbers: [i64; LIMITS] = [0; LIMITS];
+        let model = self.model;
+        let mut numbers: [i64; LIMITS_ROOM] = [0; LIMITS_ROOM];
         let mut k: usize = 0;
-        while k < LIMITS {
+        while k < LIMITS_ROOM {
             let number = self.moved_limit(variable, shift, k);
             numbers[k] = number;
             k += 1;
         }
-        Limits { numbers: numbers }
+        Limits {
+            model: model,
+            numbers: numbers,
+        }
     }
 
     // How far a variable reaches in a piece: 0 is the low piece, any other number the high one.
     fn reach(self, piece: usize, variable: usize) -> u64
-        requires { ⌜ (allInRange cumulus (self .numbers) ≡ true) × (variable < cumulus .variables) ⌝ }
-        ensures { λ r. ⌜ r ≡ reach (self .numbers) (pieceOf piece) variable ⌝ }
+        requires { ⌜ (allInRange (shape (self .model)) (self .numbers) ≡ true) × (variable < variablesRoom) ⌝ }
+        ensures { λ r. ⌜ r ≡ reach (shape (self .model)) (self .numbers) (pieceOf piece) variable ⌝ }
     {
         if variable == 0 {
             let cut = self.at(CUT);
@@ -189,9 +223,9 @@ impl Limits {
     }
 
     // The reaches: that of variable 0 in the low piece, then those of every variable in the high piece.
-    pub fn reaches(self) -> [u64; REACHES]
-        requires { ⌜ allInRange cumulus (self .numbers) ≡ true ⌝ }
-        ensures { λ r. ⌜ r ≡ listedReaches cumulus (reach (self .numbers)) ⌝ }
+    pub fn reaches(self) -> [u64; REACHES_ROOM]
+        requires { ⌜ allInRange (shape (self .model)) (self .numbers) ≡ true ⌝ }
+        ensures { λ r. ⌜ r ≡ listedReaches (reach (shape (self .model)) (self .numbers)) ⌝ }
     {
         [
             self.reach(0, 0),
@@ -205,31 +239,39 @@ impl Limits {
 
     // Whether a reading lies within the limits of a variable, ends included.
     pub fn inside(self, variable: usize, x: i64) -> bool
-        requires { ⌜ variable < cumulus .variables ⌝ }
-        ensures { λ r. ⌜ r ≡ (leZ (lowest (self .numbers) variable) x && leZ x (highest (self .numbers) variable)) ⌝ }
+        requires { ⌜ variable < variablesRoom ⌝ }
+        ensures { λ r. ⌜ r ≡ (leZ (lowest (shape (self .model)) (self .numbers) variable) x && leZ x (highest (shape (self .model)) (self .numbers) variable)) ⌝ }
     {
         (self.lowest(variable) <= x) & (x <= self.highest(variable))
     }
 
     // The refusal of the first reading outside its limits; 0 where all are inside.
-    pub fn outside(self, state: [i64; VARIABLES]) -> u64
-        ensures { λ r. ⌜ r ≡ first (listed (cumulus .variables) (λ i. outside i when not (inside (self .numbers) (readings state) i))) ⌝ }
+    pub fn outside(self, state: &[i64]) -> u64
+        requires { ⌜ length (now state) ≡ shape (self .model) .variables ⌝ }
+        ensures { λ r. ⌜ r ≡ first (listed (shape (self .model) .variables) (λ i. outside (shape (self .model)) i when not (inside (shape (self .model)) (self .numbers) (readings (now (state .entry))) i))) ⌝ }
     {
+        let model = self.model;
         let mut i: usize = 0;
-        while i < VARIABLES {
+        while i < VARIABLES_ROOM {
+            if i >= model.variables() {
+                return DONE;
+            }
             let reading = state[i];
             if !self.inside(i, reading) {
-                return OUTSIDE + i as u64;
+                return model.outside(i);
             }
             i += 1;
         }
         DONE
     }
 
-    // Whether a reading of variable 0 lies in the low piece.
-    pub fn in_low_piece(self, x: i64) -> bool
-        ensures { λ r. ⌜ r ≡ leZ x (cut (self .numbers)) ⌝ }
+    // The piece that a reading of variable 0 lies in: 0 is the low one, 1 the high one.
+    pub fn piece(self, x: i64) -> usize
+        ensures { λ r. ⌜ r ≡ cond (leZ x (cut (shape (self .model)) (self .numbers))) 0 1 ⌝ }
     {
-        x <= self.at(CUT)
+        if x <= self.at(CUT) {
+            return 0;
+        }
+        1
     }
 }

@@ -47,38 +47,38 @@ module _ (x : ℕ → ℤ) (out : List ℤ) where
   unfolding fineNumber
   room-number e = first-skip wrongOutput _ (eq-eqb (length out) (cumulus .blocks) e)
 
-  tested : (i : ℕ) → i < cumulus .variables → getD (refusedReadings cumulus fineLimits x) i (done when false) ≡ outside i when not (inside fineLimits x i)
+  tested : (i : ℕ) → i < cumulus .variables → getD (refusedReadings cumulus fineLimits x) i (done when false) ≡ outside cumulus i when not (inside cumulus fineLimits x i)
   tested = getD-refusedReadings cumulus fineLimits x (done when false)
 
-  pub accepted : (fineNumber x out ≡ done → (length out ≡ cumulus .blocks) × ((i : ℕ) → i < cumulus .variables → inside fineLimits x i ≡ true))
-      × (length out ≡ cumulus .blocks → ((i : ℕ) → i < cumulus .variables → inside fineLimits x i ≡ true) → fineNumber x out ≡ done)
+  pub accepted : (fineNumber x out ≡ done → (length out ≡ cumulus .blocks) × ((i : ℕ) → i < cumulus .variables → inside cumulus fineLimits x i ≡ true))
+      × (length out ≡ cumulus .blocks → ((i : ℕ) → i < cumulus .variables → inside cumulus fineLimits x i ≡ true) → fineNumber x out ≡ done)
   unfolding fineNumber
   accepted = (
     λ e. let p = first-passed 1 _ _ e in (eqb-true (length out) (cumulus .blocks) (p .0), λ i h. all (p .1) i h),
     λ six h. room-number six ∙ first-none (done when false) (refusedReadings cumulus fineLimits x) (λ k m. let l : k < cumulus .variables = omega (arith, length-refusedReadings cumulus fineLimits x) in ap (λ r. r .holds) (tested k l) ∙ ap not (h k l)),
   )
     where
-      all : first (refusedReadings cumulus fineLimits x) ≡ done → (i : ℕ) → i < cumulus .variables → inside fineLimits x i ≡ true
+      all : first (refusedReadings cumulus fineLimits x) ≡ done → (i : ℕ) → i < cumulus .variables → inside cumulus fineLimits x i ≡ true
       all e i h =
-          not-false (inside fineLimits x i)
+          not-false (inside cumulus fineLimits x i)
           (sym (ap (λ r. r .holds) (tested i h)) ∙ first-done (done when false) (refusedReadings cumulus fineLimits x) (λ k m. rw (tested k (omega (arith, length-refusedReadings cumulus fineLimits x))) (omega arith)) e i (omega (arith, length-refusedReadings cumulus fineLimits x)))
 
   -- ════ readings that are accepted
-  pub within-reach : fineNumber x out ≡ done → (i : ℕ) → i < cumulus .variables → natAbs (x i) ≤ reach fineLimits (pieceAt fineLimits x) i
-  within-reach e i h = inside-reach fineLimits x i (accepted .0 e .1 i h)
+  pub within-reach : fineNumber x out ≡ done → (i : ℕ) → i < cumulus .variables → natAbs (x i) ≤ reach cumulus fineLimits (pieceAt cumulus fineLimits x) i
+  within-reach e i h = inside-reach cumulus fineLimits x i (accepted .0 e .1 i h)
 
-reaches-tested : every 2 (λ n. every (cumulus .variables) (λ i. leb (reach fineLimits (piece n) i) (microradians .radian))) ≡ true
+reaches-tested : every 2 (λ n. every (cumulus .variables) (λ i. leb (reach cumulus fineLimits (piece n) i) (microradians .radian))) ≡ true
 unfolding every
 reaches-tested = refl
 
-pub reach-near : (p : Piece) (i : ℕ) → i < cumulus .variables → reach fineLimits p i ≤ microradians .radian
-reach-near low i h = leb-true (reach fineLimits low i) (microradians .radian) (every-all (cumulus .variables) _ (every-all 2 _ reaches-tested 0 (omega arith)) i h)
-reach-near high i h = leb-true (reach fineLimits high i) (microradians .radian) (every-all (cumulus .variables) _ (every-all 2 _ reaches-tested 1 (omega arith)) i h)
+pub reach-near : (p : Piece) (i : ℕ) → i < cumulus .variables → reach cumulus fineLimits p i ≤ microradians .radian
+reach-near low i h = leb-true (reach cumulus fineLimits low i) (microradians .radian) (every-all (cumulus .variables) _ (every-all 2 _ reaches-tested 0 (omega arith)) i h)
+reach-near high i h = leb-true (reach cumulus fineLimits high i) (microradians .radian) (every-all (cumulus .variables) _ (every-all 2 _ reaches-tested 1 (omega arith)) i h)
 
 module _ (x : ℕ → ℤ) (out : List ℤ) where
   pub all-near : fineNumber x out ≡ done → AllNear x
-  all-near e i h = N.le-trans (within-reach x out e i h) (reach-near (pieceAt fineLimits x) i h)
+  all-near e i h = N.le-trans (within-reach x out e i h) (reach-near (pieceAt cumulus fineLimits x) i h)
 
-  pub piece-given : fineNumber x out ≡ done → (n : ℕ) → piece n ≡ pieceAt fineLimits x → listed (cumulus .blocks) (λ b. answerIn (piece n) (coefficientAt b) x) ≡ fineOutput x out
+  pub piece-given : fineNumber x out ≡ done → (n : ℕ) → piece n ≡ pieceAt cumulus fineLimits x → listed (cumulus .blocks) (λ b. answerIn (piece n) (coefficientAt b) x) ≡ fineOutput x out
   unfolding listed
   piece-given e n h = ap (λ p. map (λ C. answerIn p C x) coefficients) h ∙ sym (number-given x out e)

@@ -11,9 +11,10 @@ use Rattle.polynomials.specs.Sum.{listed}
 use Rattle.polynomials.specs.Downward.{down, rowDownward}
 use Rattle.layout.specs.Refusals.{first}
 use Rattle.layout.specs.Reading.{readings}
+use Rattle.layout.specs.Shape.{cumulus, kindAt}
 use Rattle.cumulus.specs.Model.{C-X}
 use Rattle.microradians.specs.Fixed.{_⊛_, nano}
-use Rattle.microradians.specs.Groups.{kindAt, partAt}
+use Rattle.microradians.specs.Groups.{partAt}
 use Rattle.microradians.specs.Answer.{fineLimits, fineAnswers, fineNumber, fineOutput}
 use Rattle.microradians.proofs.Held.{valueAt}
 use Rattle.microradians.proofs.Slack.{products, multiplications}
@@ -34,12 +35,12 @@ abbrev hand : ℕ → ℤ
 hand = readings (pos 123_456 ∷ pos 0 ∷ pos 0 ∷ negℤ (pos 345_678) ∷ [])
 
 -- before 1, α, α² and α³ stand -2.566 × 10⁻², 5.722 × 10⁻¹, 1.496 and -1.148 × 10
-hand-numbers : map (λ p. nano (kindAt 0) (partAt C-X 0) p 0) (0 ∷ 1 ∷ 2 ∷ 3 ∷ []) ≡ negℤ (pos 25_660_000) ∷ pos 572_200_000 ∷ pos 1_496_000_000 ∷ negℤ (pos 11_480_000_000) ∷ []
+hand-numbers : map (λ p. nano (kindAt cumulus 0) (partAt C-X 0) p 0) (0 ∷ 1 ∷ 2 ∷ 3 ∷ []) ≡ negℤ (pos 25_660_000) ∷ pos 572_200_000 ∷ pos 1_496_000_000 ∷ negℤ (pos 11_480_000_000) ∷ []
 unfolding below
 hand-numbers = refl
 
 -- the rows of η³, η², η and 1, with 0, 1, 2 and 3 products
-hand-rows : map (rowDownward ints _⊛_ 3 (nano (kindAt 0) (partAt C-X 0)) (hand 0)) (3 ∷ 2 ∷ 1 ∷ 0 ∷ [])
+hand-rows : map (rowDownward ints _⊛_ 3 (nano (kindAt cumulus 0) (partAt C-X 0)) (hand 0)) (3 ∷ 2 ∷ 1 ∷ 0 ∷ [])
     ≡ pos 73_310_000 ∷ negℤ (pos 56_382_355) ∷ negℤ (pos 6_630_338) ∷ pos 46_181_403 ∷ []
 unfolding down nearestAway below
 hand-rows = refl

@@ -28,14 +28,16 @@ use Rattle.polynomials.proofs.Semiring.{whole}
 use Rattle.polynomials.proofs.Listed.{length-listed, getD-listed}
 use Rattle.polynomials.proofs.Places.{place-below, powers-place}
 use Rattle.polynomials.proofs.Downward.{downward-ext, downward-value}
-use Rattle.layout.specs.Shape.{Kind, InVariables, cumulus}
+use Rattle.layout.specs.declared.Kind.{Kind}
+use Rattle.layout.specs.Shape.{InVariables, cumulus}
 use Rattle.layout.specs.Blocks.{Piece, low, high, piece, counts, keep, chosen}
 use Rattle.layout.specs.Limits.{every, cut}
 use Rattle.layout.specs.Refusals.{done}
 use Rattle.layout.specs.Reading.{pieceAt}
 use Rattle.layout.specs.Sound.{reach}
 use Rattle.layout.proofs.Tests.{every-all}
-use Rattle.layout.proofs.Weights.{cumulus-variables}
+use Rattle.layout.proofs.Fine.{well-formed}
+use Rattle.layout.specs.declared.Model.the-variants.{Cumulus}
 use Rattle.cumulus.specs.Notation.{Polynomial}
 use Rattle.cumulus.specs.Model.{Coefficient, coefficientAt, microradians, scaleIn, pre, post, fineValue}
 use Rattle.cumulus.specs.Stored.{degree, printedAt, group, byKind, parts, eachBelongs}
@@ -78,36 +80,37 @@ abbrev pub Low : List Kind → Type 0
 Low [] = Unit
 Low (k ∷ ks) = (k .degree ≤ highestDegree) × Low ks
 
-abbrev pub slacks : (ℕ → ℕ) → Piece → List Kind → List Polynomial → ℕ
-slacks ρ p [] fs = 0
-slacks ρ p (k ∷ ks) [] = 0
-slacks ρ p (k ∷ ks) (f ∷ fs) = cond (counts p k) (slackOf ρ k f) 0 + slacks ρ p ks fs
+-- from the group numbered g on
+abbrev pub slacks : (ℕ → ℕ) → Piece → ℕ → List Kind → List Polynomial → ℕ
+slacks ρ p g [] fs = 0
+slacks ρ p g (k ∷ ks) [] = 0
+slacks ρ p g (k ∷ ks) (f ∷ fs) = cond (counts g p) (slackOf ρ k f) 0 + slacks ρ p (suc g) ks fs
 
 module _ (n : ℕ) (x : ℕ → ℤ) (ρ : ℕ → ℕ) (h : (i : ℕ) → i < n → natAbs (x i) ≤ ρ i) (p : Piece) where
-  kinds-off : (ks : List Kind) (fs : List Polynomial) → InVariables n ks → Low ks
-      → Off (M ^ highestDegree) (slacks ρ p ks fs) (together p ks (byKind (inFixedPoint x) ks fs)) (total (chosen p ks (byKind (group (scaleIn microradians)) ks fs)) x)
+  kinds-off : (g : ℕ) (ks : List Kind) (fs : List Polynomial) → InVariables n ks → Low ks
+      → Off (M ^ highestDegree) (slacks ρ p g ks fs) (together p g (byKind (inFixedPoint x) ks fs)) (total (chosen p g (byKind (group (scaleIn microradians)) ks fs)) x)
   unfolding chosen total
-  kinds-off [] fs v l = off-nil _ refl refl
-  kinds-off (k ∷ ks) [] v l = off-nil _ refl refl
-  kinds-off (k ∷ ks) (f ∷ fs) v l = next (counts p k) (group-off k f x ρ (l .0) (h _ (v .0)) (h _ (v .1))) (kinds-off ks fs (v .2) (l .1))
+  kinds-off g [] fs v l = off-nil _ refl refl
+  kinds-off g (k ∷ ks) [] v l = off-nil _ refl refl
+  kinds-off g (k ∷ ks) (f ∷ fs) v l = next (counts g p) (group-off k f x ρ (l .0) (h _ (v .0)) (h _ (v .1))) (kinds-off (suc g) ks fs (v .2) (l .1))
     where
       next : (b : Bool) → Off (M ^ highestDegree) (slackOf ρ k f) (inFixedPoint x k f) (valueOf (group (scaleIn microradians) k f) x)
-          → Off (M ^ highestDegree) (slacks ρ p ks fs) (together p ks (byKind (inFixedPoint x) ks fs)) (total (chosen p ks (byKind (group (scaleIn microradians)) ks fs)) x)
-          → Off (M ^ highestDegree) (cond b (slackOf ρ k f) 0 + slacks ρ p ks fs) (cond b (inFixedPoint x k f) (pos 0) +ℤ together p ks (byKind (inFixedPoint x) ks fs)) (total (keep b (group (scaleIn microradians) k f) (chosen p ks (byKind (group (scaleIn microradians)) ks fs))) x)
+          → Off (M ^ highestDegree) (slacks ρ p (suc g) ks fs) (together p (suc g) (byKind (inFixedPoint x) ks fs)) (total (chosen p (suc g) (byKind (group (scaleIn microradians)) ks fs)) x)
+          → Off (M ^ highestDegree) (cond b (slackOf ρ k f) 0 + slacks ρ p (suc g) ks fs) (cond b (inFixedPoint x k f) (pos 0) +ℤ together p (suc g) (byKind (inFixedPoint x) ks fs)) (total (keep b (group (scaleIn microradians) k f) (chosen p (suc g) (byKind (group (scaleIn microradians)) ks fs))) x)
       next true o r = off-+ o r
-      next false o r = rw (+ℤ-idl (together p ks (byKind (inFixedPoint x) ks fs)), N.zero-add (slacks ρ p ks fs)) r
+      next false o r = rw (+ℤ-idl (together p (suc g) (byKind (inFixedPoint x) ks fs)), N.zero-add (slacks ρ p (suc g) ks fs)) r
 
 -- ════ a coefficient
 abbrev pub slackIn : Piece → Coefficient → ℕ
-slackIn p C = slacks (reach fineLimits p) p (cumulus .kinds) (parts C)
+slackIn p C = slacks (reach cumulus fineLimits p) p 0 (cumulus .kinds) (parts C)
 
 low-degrees : Low (cumulus .kinds)
 low-degrees = (omega arith, (omega arith, (omega arith, (omega arith, tt))))
 
-pub answer-off : (x : ℕ → ℤ) (p : Piece) (C : Coefficient) → eachBelongs C ≡ all-hold → ((i : ℕ) → i < cumulus .variables → natAbs (x i) ≤ reach fineLimits p i)
+pub answer-off : (x : ℕ → ℤ) (p : Piece) (C : Coefficient) → eachBelongs C ≡ all-hold → ((i : ℕ) → i < cumulus .variables → natAbs (x i) ≤ reach cumulus fineLimits p i)
     → Off (M ^ highestDegree) (slackIn p C) (answerIn p C x) (equation microradians p C x)
 answer-off x p C b h =
-    rw (held-total microradians x C b p) at (kinds-off (cumulus .variables) x (reach fineLimits p) h p (cumulus .kinds) (parts C) cumulus-variables low-degrees)
+    rw (held-total microradians x C b p) at (kinds-off (cumulus .variables) x (reach cumulus fineLimits p) h p 0 (cumulus .kinds) (parts C) (well-formed Cumulus .in-variables) low-degrees)
 
 -- ════ by the reaches
 all-followed : every 2 (λ n. every (cumulus .blocks) (λ b. leb (slackIn (piece n) (coefficientAt b)) (2 * (691 * 10 ^ 22)))) ≡ true
@@ -119,31 +122,31 @@ followed low b h = leb-true _ (2 * (691 * 10 ^ 22)) (every-all (cumulus .blocks)
 followed high b h = leb-true _ (2 * (691 * 10 ^ 22)) (every-all (cumulus .blocks) _ (every-all 2 _ all-followed 1 (omega arith)) b h)
 
 -- ════ by the number of products
-abbrev allProducts : Piece → List Kind → ℕ
-allProducts p [] = 0
-allProducts p (k ∷ ks) = cond (counts p k) (multiplications (k .degree)) 0 + allProducts p ks
+abbrev allProducts : Piece → ℕ → List Kind → ℕ
+allProducts p g [] = 0
+allProducts p g (k ∷ ks) = cond (counts g p) (multiplications (k .degree)) 0 + allProducts p (suc g) ks
 
 module _ (n : ℕ) (ρ : ℕ → ℕ) (h : (i : ℕ) → i < n → ρ i ≤ M) (p : Piece) where
-  slacks-counted : (ks : List Kind) (fs : List Polynomial) → InVariables n ks → Low ks → slacks ρ p ks fs ≤ allProducts p ks * M ^ highestDegree
-  slacks-counted [] fs v l = omega arith
-  slacks-counted (k ∷ ks) [] v l = omega arith
-  slacks-counted (k ∷ ks) (f ∷ fs) v l =
-      next (counts p k) (counted (printedOf k f) (k .degree) highestDegree (ρ (k .u)) (ρ (k .v)) (h _ (v .0)) (h _ (v .1)) (l .0)) (slacks-counted ks fs (v .2) (l .1))
+  slacks-counted : (g : ℕ) (ks : List Kind) (fs : List Polynomial) → InVariables n ks → Low ks → slacks ρ p g ks fs ≤ allProducts p g ks * M ^ highestDegree
+  slacks-counted g [] fs v l = omega arith
+  slacks-counted g (k ∷ ks) [] v l = omega arith
+  slacks-counted g (k ∷ ks) (f ∷ fs) v l =
+      next (counts g p) (counted (printedOf k f) (k .degree) highestDegree (ρ (k .u)) (ρ (k .v)) (h _ (v .0)) (h _ (v .1)) (l .0)) (slacks-counted (suc g) ks fs (v .2) (l .1))
     where
-      next : (b : Bool) → slackOf ρ k f ≤ multiplications (k .degree) * M ^ highestDegree → slacks ρ p ks fs ≤ allProducts p ks * M ^ highestDegree
-          → cond b (slackOf ρ k f) 0 + slacks ρ p ks fs ≤ (cond b (multiplications (k .degree)) 0 + allProducts p ks) * M ^ highestDegree
-      next true o r = omega (arith, o, r, N.add-mul (multiplications (k .degree)) (allProducts p ks) (M ^ highestDegree))
-      next false o r = omega (arith, r, N.zero-add (allProducts p ks))
+      next : (b : Bool) → slackOf ρ k f ≤ multiplications (k .degree) * M ^ highestDegree → slacks ρ p (suc g) ks fs ≤ allProducts p (suc g) ks * M ^ highestDegree
+          → cond b (slackOf ρ k f) 0 + slacks ρ p (suc g) ks fs ≤ (cond b (multiplications (k .degree)) 0 + allProducts p (suc g) ks) * M ^ highestDegree
+      next true o r = omega (arith, o, r, N.add-mul (multiplications (k .degree)) (allProducts p (suc g) ks) (M ^ highestDegree))
+      next false o r = omega (arith, r, N.zero-add (allProducts p (suc g) ks))
 
 -- 9 of the group in α and η, 14 of each in β
-pub products-of : (p : Piece) → allProducts p (cumulus .kinds) ≡ 37
+pub products-of : (p : Piece) → allProducts p 0 (cumulus .kinds) ≡ 37
 unfolding products
 products-of low = refl
 products-of high = refl
 
 pub slack-counted : (p : Piece) (C : Coefficient) → slackIn p C ≤ 37 * M ^ highestDegree
 slack-counted p C =
-    N.le-trans (slacks-counted (cumulus .variables) (reach fineLimits p) (reach-near p) p (cumulus .kinds) (parts C) cumulus-variables low-degrees)
+    N.le-trans (slacks-counted (cumulus .variables) (reach cumulus fineLimits p) (reach-near p) p 0 (cumulus .kinds) (parts C) (well-formed Cumulus .in-variables) low-degrees)
     (N.le-of-eq (ap (λ n. n * M ^ highestDegree) (products-of p)))
 
 -- ════ the answers of an accepted read
@@ -165,7 +168,7 @@ value-in C x false = refl
 
 module _ (x : ℕ → ℤ) (out : List ℤ) (e : fineNumber x out ≡ done) (b : ℕ) (h : b < cumulus .blocks) where
   abbrev p : Piece
-  p = pieceAt fineLimits x
+  p = pieceAt cumulus fineLimits x
 
   abbrev C : Coefficient
   C = coefficientAt b
@@ -184,7 +187,7 @@ module _ (x : ℕ → ℤ) (out : List ℤ) (e : fineNumber x out ≡ done) (b :
       (N.le-of-eq
       (ap (λ n. 2 * n)
       (sym (natAbs-* (pos perPrinted) (getD (fineOutput x out) b (pos 0) *ℤ pos (10 ^ 20) -ℤ fineValue C x)) ∙ ap natAbs (sym (split-last (getD (fineOutput x out) b (pos 0)) (fineValue C x)))
-      ∙ ap₂ (λ v w. natAbs (pos (M ^ highestDegree) *ℤ v -ℤ pos perPrinted *ℤ w)) answer-at (sym (value-in C x (leZ (x 0) (cut fineLimits)))))))
+      ∙ ap₂ (λ v w. natAbs (pos (M ^ highestDegree) *ℤ v -ℤ pos perPrinted *ℤ w)) answer-at (sym (value-in C x (leZ (x 0) (cut cumulus fineLimits)))))))
       (answer-off x p C (all-belong b h) (within-reach x out e) .off)
 
   -- 6.91, 18.5 and 100 units of 10⁻⁹

@@ -27,21 +27,21 @@ use Rattle.polynomials.specs.Downward.{downward}
 use Rattle.polynomials.proofs.Listed.{length-listed, getD-listed}
 use Rattle.polynomials.proofs.Places.{place-below}
 use Rattle.polynomials.proofs.Downward.{downward-ext}
-use Rattle.layout.specs.Shape.{cumulus}
+use Rattle.layout.specs.Shape.{cumulus, kindAt}
 use Rattle.layout.specs.Blocks.{piece}
 use Rattle.layout.specs.Limits.{every}
 use Rattle.layout.proofs.Tests.{every-all}
 use Rattle.cumulus.specs.Model.{Coefficient, coefficientAt}
 use Rattle.cumulus.specs.Stored.{printedAt}
 use Rattle.microradians.specs.Fixed.{perPrinted, _⊛_, nano, inFixedPoint}
-use Rattle.microradians.specs.Groups.{groupCount, kindAt, partAt, fineNumbers, fineGroup}
+use Rattle.microradians.specs.Groups.{groupCount, partAt, fineNumbers, fineGroup}
 use Rattle.microradians.specs.Answer.{answerIn}
 use Rattle.microradians.specs.Ready.{largest, most, Placed, Near, AllNear}
 use Rattle.microradians.proofs.Bounds.{group-size}
 
 -- ════ the numbers of a group
 abbrev numbersOf : ℕ → ℕ → List ℤ
-numbersOf b i = fineNumbers (kindAt i) (partAt (coefficientAt b) i)
+numbersOf b i = fineNumbers (kindAt cumulus i) (partAt (coefficientAt b) i)
 
 counted : (b i : ℕ) → i < groupCount → fineGroup (groupCount * b + i) ≡ numbersOf b i
 counted b i h =
@@ -68,7 +68,7 @@ module _ (b i : ℕ) (h : b < cumulus .blocks) (l : i < groupCount) where
 -- ════ the values
 module _ (C : Coefficient) (x : ℕ → ℤ) where
   abbrev pub valueAt : ℕ → ℤ
-  valueAt i = inFixedPoint x (kindAt i) (partAt C i)
+  valueAt i = inFixedPoint x (kindAt cumulus i) (partAt C i)
 
   pub answer-is : (n : ℕ) → n < 2 → valueAt n +ℤ (valueAt 2 +ℤ valueAt 3) ≡ answerIn (piece n) C x
   answer-is zero h = sym (ap (λ z. valueAt 0 +ℤ z) (+ℤ-idl _ ∙ ap (λ z. valueAt 2 +ℤ z) (+ℤ-idr (valueAt 3))))
@@ -80,26 +80,26 @@ pub record Found (b i degree u v : ℕ) : Type 0 where
   pub value : (x : ℕ → ℤ) → downward ints _⊛_ degree (number ints (fineGroup (groupCount * b + i))) (x u) (x v) ≡ valueAt (coefficientAt b) x i
   pub size : (x : ℕ → ℤ) → Near (x u) → Near (x v) → natAbs (valueAt (coefficientAt b) x i) ≤ most
 
-module _ (b i : ℕ) (h : b < cumulus .blocks) (l : i < groupCount) (d : kindAt i .degree ≤ highestDegree) where
+module _ (b i : ℕ) (h : b < cumulus .blocks) (l : i < groupCount) (d : kindAt cumulus i .degree ≤ highestDegree) where
   abbrev degree : ℕ
-  degree = kindAt i .degree
+  degree = kindAt cumulus i .degree
 
   stands : Placed (numbersOf b i) degree
   stands = record { low = d; small = small b i h l }
 
-  number-is : (p q : ℕ) → p + q ≤ degree → number ints (numbersOf b i) p q ≡ nano (kindAt i) (partAt (coefficientAt b) i) p q
+  number-is : (p q : ℕ) → p + q ≤ degree → number ints (numbersOf b i) p q ≡ nano (kindAt cumulus i) (partAt (coefficientAt b) i) p q
   unfolding number
-  number-is p q m = getD-listed (size highestDegree) (λ k. printedAt (kindAt i) (partAt (coefficientAt b) i) k *ℤ pos perPrinted) (place p q) (pos 0) (place-below (suc highestDegree) p q (omega arith))
+  number-is p q m = getD-listed (size highestDegree) (λ k. printedAt (kindAt cumulus i) (partAt (coefficientAt b) i) k *ℤ pos perPrinted) (place p q) (pos 0) (place-below (suc highestDegree) p q (omega arith))
 
-  value-is : (x : ℕ → ℤ) → downward ints _⊛_ degree (number ints (numbersOf b i)) (x (kindAt i .u)) (x (kindAt i .v)) ≡ valueAt (coefficientAt b) x i
+  value-is : (x : ℕ → ℤ) → downward ints _⊛_ degree (number ints (numbersOf b i)) (x (kindAt cumulus i .u)) (x (kindAt cumulus i .v)) ≡ valueAt (coefficientAt b) x i
   value-is x = downward-ext ints _⊛_ degree _ _ _ _ number-is
 
-  found : Found b i degree (kindAt i .u) (kindAt i .v)
+  found : Found b i degree (kindAt cumulus i .u) (kindAt cumulus i .v)
   found =
       record {
         placed = rw (counted b i l) stands;
         value = λ x. rw (counted b i l) (value-is x);
-        size = λ x hu hv. N.le-trans (N.le-of-eq (ap natAbs (sym (value-is x)))) (group-size stands (x (kindAt i .u)) (x (kindAt i .v)) hu hv degree 0 (N.le-refl _));
+        size = λ x hu hv. N.le-trans (N.le-of-eq (ap natAbs (sym (value-is x)))) (group-size stands (x (kindAt cumulus i .u)) (x (kindAt cumulus i .v)) hu hv degree 0 (N.le-refl _));
       }
 
 pub pitch-found : (b n : ℕ) → b < cumulus .blocks → n < 2 → Found b n 3 0 3

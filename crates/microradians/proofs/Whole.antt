@@ -39,11 +39,11 @@ le-times a b = ring2 a b (λ ρ e f. simp (quote, quote-pos ρ, e, f) (omega zar
 same-test : (a b : ℤ) → leZ (pos 1000 *ℤ a) (pos 1000 *ℤ b) ≡ leZ a b
 same-test a b = true-iff _ _ (λ e. fact-leZ (times-le a b (leZ-fact e))) (λ e. fact-leZ (le-times a b (leZ-fact e)))
 
-lowest-all : listed (cumulus .variables) (lowest fineLimits) ≡ listed (cumulus .variables) (λ i. pos 1000 *ℤ lowest published i)
+lowest-all : listed (cumulus .variables) (lowest cumulus fineLimits) ≡ listed (cumulus .variables) (λ i. pos 1000 *ℤ lowest cumulus published i)
 unfolding listed published
 lowest-all = refl
 
-highest-all : listed (cumulus .variables) (highest fineLimits) ≡ listed (cumulus .variables) (λ i. pos 1000 *ℤ highest published i)
+highest-all : listed (cumulus .variables) (highest cumulus fineLimits) ≡ listed (cumulus .variables) (λ i. pos 1000 *ℤ highest cumulus published i)
 unfolding listed published
 highest-all = refl
 
@@ -51,26 +51,26 @@ one-of : (f g : ℕ → ℤ) → listed (cumulus .variables) f ≡ listed (cumul
 one-of f g e i h =
     sym (getD-listed (cumulus .variables) f i (pos 0) h) ∙ ap (λ r. getD r i (pos 0)) e ∙ getD-listed (cumulus .variables) g i (pos 0) h
 
-pub lowest-whole : (i : ℕ) → i < cumulus .variables → lowest fineLimits i ≡ pos 1000 *ℤ lowest published i
-lowest-whole = one-of (lowest fineLimits) (λ i. pos 1000 *ℤ lowest published i) lowest-all
+pub lowest-whole : (i : ℕ) → i < cumulus .variables → lowest cumulus fineLimits i ≡ pos 1000 *ℤ lowest cumulus published i
+lowest-whole = one-of (lowest cumulus fineLimits) (λ i. pos 1000 *ℤ lowest cumulus published i) lowest-all
 
-pub highest-whole : (i : ℕ) → i < cumulus .variables → highest fineLimits i ≡ pos 1000 *ℤ highest published i
-highest-whole = one-of (highest fineLimits) (λ i. pos 1000 *ℤ highest published i) highest-all
+pub highest-whole : (i : ℕ) → i < cumulus .variables → highest cumulus fineLimits i ≡ pos 1000 *ℤ highest cumulus published i
+highest-whole = one-of (highest cumulus fineLimits) (λ i. pos 1000 *ℤ highest cumulus published i) highest-all
 
 module _ (x : ℕ → ℤ) where
   abbrev pub thousandfold : ℕ → ℤ
   thousandfold i = pos 1000 *ℤ x i
 
-  inside-whole : (i : ℕ) → i < cumulus .variables → inside fineLimits thousandfold i ≡ inside published x i
+  inside-whole : (i : ℕ) → i < cumulus .variables → inside cumulus fineLimits thousandfold i ≡ inside cumulus published x i
   inside-whole i h =
       ap₂ _&&_
-      (ap (λ z. leZ z (thousandfold i)) (lowest-whole i h) ∙ same-test (lowest published i) (x i))
-      (ap (leZ (thousandfold i)) (highest-whole i h) ∙ same-test (x i) (highest published i))
+      (ap (λ z. leZ z (thousandfold i)) (lowest-whole i h) ∙ same-test (lowest cumulus published i) (x i))
+      (ap (leZ (thousandfold i)) (highest-whole i h) ∙ same-test (x i) (highest cumulus published i))
 
   pub number-whole : (out : List ℤ) → length out ≡ cumulus .blocks → fineNumber thousandfold out ≡ readNumber cumulus published x out
   number-whole out six =
       room-number thousandfold out six
-      ∙ ap first (listed-ext (done when not (inside published x 0)) (cumulus .variables) _ _ (λ i h. ap (λ b. outside i when not b) (inside-whole i h)))
+      ∙ ap first (listed-ext (done when not (inside cumulus published x 0)) (cumulus .variables) _ _ (λ i h. ap (λ b. outside cumulus i when not b) (inside-whole i h)))
       ∙ sym (read-number x out six)
 
   -- ════ the answers

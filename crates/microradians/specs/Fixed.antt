@@ -5,7 +5,7 @@ use Rattle.whole.specs.Nearest.{nearestAway}
 use Rattle.polynomials.specs.Numbers.{ints}
 use Rattle.polynomials.specs.Order.{place}
 use Rattle.polynomials.specs.Downward.{downward}
-use Rattle.layout.specs.Shape.{Kind}
+use Rattle.layout.specs.declared.Kind.{Kind}
 use Rattle.cumulus.specs.Notation.{Polynomial}
 use Rattle.cumulus.specs.Model.{microradians}
 use Rattle.cumulus.specs.Stored.{printedAt}

@@ -1,5 +1,4 @@
 -- The groups of the published table as the code holds them, one by one and in units of 10⁻⁹.
-use mathlib.Core.Bool.{true}
 use mathlib.Core.List.{List}
 use Prim.Native.Nat.{ℕ, _/_, _%_}
 use lib.IntN.{ℤ, pos, _*ℤ_}
@@ -7,7 +6,8 @@ use lib.ListN.{length, getD}
 use Rattle.polynomials.specs.Order.{size}
 use Rattle.polynomials.specs.Sum.{listed}
 use Rattle.polynomials.specs.Limits.{highestDegree}
-use Rattle.layout.specs.Shape.{Kind, cumulus}
+use Rattle.layout.specs.declared.Kind.{Kind}
+use Rattle.layout.specs.Shape.{cumulus, kindAt}
 use Rattle.cumulus.specs.Notation.{Polynomial, none}
 use Rattle.cumulus.specs.Model.{Coefficient, coefficientAt}
 use Rattle.cumulus.specs.Stored.{printedAt, parts}
@@ -16,9 +16,6 @@ use Rattle.microradians.specs.Fixed.{perPrinted}
 -- the groups of a block by their numbers: low and high in α and η, then in β and ξ and in β and ζ
 abbrev pub groupCount : ℕ
 groupCount = length (cumulus .kinds)
-
-abbrev pub kindAt : ℕ → Kind
-kindAt i = getD (cumulus .kinds) i (record { u = 0; v = 0; degree = 0; low = true; high = true })
 
 abbrev pub partAt : Coefficient → ℕ → Polynomial
 partAt C i = getD (parts C) i none
@@ -29,4 +26,4 @@ fineNumbers k f = listed (size highestDegree) (λ i. printedAt k f i *ℤ pos pe
 
 -- of all groups, counted through the blocks, the n-th
 abbrev pub fineGroup : ℕ → List ℤ
-fineGroup n = fineNumbers (kindAt (n % groupCount)) (partAt (coefficientAt (n / groupCount)) (n % groupCount))
+fineGroup n = fineNumbers (kindAt cumulus (n % groupCount)) (partAt (coefficientAt (n / groupCount)) (n % groupCount))

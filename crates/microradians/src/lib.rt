@@ -3,11 +3,12 @@ mod numbers;
 
 use cumulus::CUT_MICRORADIANS;
 use cumulus::PUBLISHED;
-use layout::BLOCKS;
-use layout::LIMITS;
-use layout::PITCH_DEGREE;
-use layout::SIDE_DEGREE;
-use layout::VARIABLES;
+use layout::Model;
+use layout::cumulus_one::BLOCKS;
+use layout::cumulus_one::LIMITS;
+use layout::cumulus_one::PITCH_DEGREE;
+use layout::cumulus_one::SIDE_DEGREE;
+use layout::cumulus_one::VARIABLES;
 use layout::refusals::DONE;
 use layout::refusals::WRONG_OUTPUT;
 use limits::Limits;
@@ -129,16 +130,14 @@ pub fn read(state: [i64; VARIABLES], out: &mut [i64]) -> u64
         return WRONG_OUTPUT;
     }
     let limits = Limits {
+        model: Model::Cumulus,
         numbers: FINE_ENVELOPE,
     };
-    let outside = limits.outside(state);
+    let outside = limits.outside(&state);
     if outside != DONE {
         return outside;
     }
-    if limits.in_low_piece(state[0]) {
-        write_answers(0, state, out);
-        return DONE;
-    }
-    write_answers(1, state, out);
+    let piece = limits.piece(state[0]);
+    write_answers(piece, state, out);
     DONE
 }

@@ -1,7 +1,7 @@
 // The numbers of the published table in units of 10^-9, made from it when the constants are built: nothing is left over by a division. Every group
 // has room for degree 4; in those of degree 3 the last five are 0.
 use cumulus::PUBLISHED;
-use layout::SIDE;
+use layout::cumulus_one::SIDE;
 ghost use mathlib.Core.Path.{_≡_};
 ghost use Prim.Native.Nat.{_*_, _<_};
 ghost use Rattle.layout.specs.Shape.{cumulus};

@@ -1,53 +1,55 @@
 -- What the code meets when it asks whether the datum of a variable may be moved.
---   moved-taken           the limits taken from a table move as the table's
+--   movedRoom, same-moved  the limits as the code moves them, in their room, have the moved limits of the table
+--   moved-held            they are what `Limits::moved` gives
+--   moved-range, moved-reaches, moved-written   so they are in range where those are, reach as far, and are written as those
 --   move-unsound          the refusal of an unsound table is the move's
---   longer-listed         listed reaches made longer are the longer reaches, listed
 --   move-far              a move by more than the longest shift takes a limit out of its range
---   lengthened            the moved reaches can be made longer by the size of the shift
---   move-one, move-other  the longer ones are at least 1, and beside variable 0 the same in both pieces
-use mathlib.Core.Path.{_≡_, refl, sym, _∙_, ap}
+--   lengthened            the moved reaches of the variable can be made longer by the size of the shift
+--   move-one, move-light  the longer ones are at least 1, and weigh what the weight rule asks
+use mathlib.Core.Path.{_≡_, refl, sym, _∙_, ap, subst}
 use mathlib.Core.Bool.{Bool, true, false, cond}
 use mathlib.Core.List.{List}
-use Prim.Native.Nat.{ℕ, zero, suc, _+_, _≤_, _<_}
+use Prim.Native.Nat.{ℕ, zero, suc, _+_, _-_, _≤_, _<_}
 use native.Mathlib.Nat as N
 use native.Mathlib.Omega.{arith}
 use lib.Dec.{eqb}
-use lib.IntN.{ℤ, natAbs}
-use lib.ListN.{length}
+use lib.IntN.{ℤ, pos, natAbs, _-ℤ_}
+use lib.ListN.{length, getD, take}
+use lib.Seq.{getD-take, length-take-le}
+use Rattle.polynomials.specs.Sum.{listed}
 use Rattle.polynomials.specs.Groups.{longer}
-use Rattle.polynomials.proofs.Listed.{listed-ext}
-use Rattle.layout.specs.Shape.{tableLength, cumulus}
+use Rattle.polynomials.proofs.Listed.{length-listed, getD-listed, listed-is}
+use Rattle.layout.specs.declared.Model.{Model}
+use Rattle.layout.specs.Shape.{Shape, limitsLength, tableLength, shape}
+use Rattle.layout.specs.Numbers.{limitsRoom, reachesRoom}
 use Rattle.layout.specs.Limits.{farthestLimit, longestShift, allInRange, good}
 use Rattle.layout.specs.Blocks.{Piece, low, high}
-use Rattle.layout.specs.Sound.{reach}
-use Rattle.layout.specs.Reaches.{reachCount, reachAt, listedReaches, reachesOf}
+use Rattle.layout.specs.Sound.{reach, withinCap}
+use Rattle.layout.specs.Reaches.{reachAt, listedReaches, reachesOf}
 use Rattle.layout.specs.Refusals.{first}
-use Rattle.layout.specs.Moving.{movedLimits, moveReach, moveNumber, moveOutput}
-use Rattle.layout.proofs.LimitLaws.{limits-take, movedLimits-same}
+use Rattle.layout.specs.Moving.{owner, movedLimit, movedLimits, moveReach, moveLight, moveNumber, moveOutput}
+use Rattle.layout.proofs.Fine.{well-formed, few-variables, few-limits}
+use Rattle.layout.proofs.LimitLaws.{SameLimits, allInRange-same, reach-same}
+use Rattle.layout.proofs.Moved.{getD-movedLimits}
 use Rattle.layout.proofs.Refused.{move-asked, move-kept}
-use Rattle.layout.proofs.Reaches.{reach-one, reach-other, longer-other, listed-reach}
+use Rattle.layout.proofs.Reaches.{reach-one, reach-other, longer-other, listed-reach, listed-one}
 use Rattle.layout.proofs.SoundMoved.{move-within, moved-reach-within}
+use Rattle.layout.proofs.Weights.{withinCap-agreed}
+use Rattle.limits.specs.declared.Limits.{Limits}
 use Rattle.moving.specs.Ready.{Lengthened}
-use Rattle.tables.proofs.Taken.{taken}
-use Rattle.tables.proofs.Steps.{first-apart, positive, unsound}
+use Rattle.tables.specs.Ready.{unsound}
+use Rattle.tables.proofs.Taken.{taken, light-listed}
+use Rattle.tables.proofs.Steps.{first-apart, positive}
 
-pub moved-taken : (i : ℕ) (s : ℤ) (t : List ℤ) → movedLimits cumulus i s (taken t) ≡ movedLimits cumulus i s t
-moved-taken i s t = movedLimits-same (limits-take cumulus t) i s
-
-module _ (t : List ℤ) (i : ℕ) (s : ℤ) (out : List ℤ) (a : length t ≡ tableLength cumulus) (b : length out ≡ tableLength cumulus) (v : i < cumulus .variables) where
-  pub move-unsound : (n : ℕ) → n ≡ first (unsound t) → (n ≡ 0 → ⊥) → (n ≡ moveNumber cumulus t i s out) × (out ≡ moveOutput cumulus t i s out)
+module _ (S : Shape) (t : List ℤ) (i : ℕ) (s : ℤ) (out : List ℤ) (a : length t ≡ tableLength S) (b : length out ≡ tableLength S) (v : i < S .variables) where
+  pub move-unsound : (n : ℕ) → n ≡ first (unsound S t) → (n ≡ 0 → ⊥) → (n ≡ moveNumber S t i s out) × (out ≡ moveOutput S t i s out)
   move-unsound n e h =
-      let number : moveNumber cumulus t i s out ≡ n = move-asked cumulus t i s out a b v ∙ first-apart (unsound t) _ (λ z. h (e ∙ z)) ∙ sym e in
-      (sym number, sym (move-kept cumulus t i s out number (positive h)))
+      let number : moveNumber S t i s out ≡ n = move-asked S t i s out a b v ∙ first-apart (unsound S t) _ (λ z. h (e ∙ z)) ∙ sym e in
+      (sym number, sym (move-kept S t i s out number (positive h)))
 
 not-so : {b : Bool} → (b ≡ true → ⊥) → b ≡ false
 not-so {b = true} h = absurd (h refl)
 not-so {b = false} h = refl
-
--- ════ longer reaches
-longer-at : (r q : ℕ → ℕ) (i n k : ℕ) → r k ≡ q k → longer i n r k ≡ longer i n q k
-unfolding longer
-longer-at r q i n k e = ap (λ m. cond (eqb k i) (m + n) m) e
 
 longer-least : (i n : ℕ) (r : ℕ → ℕ) (k : ℕ) → r k ≤ longer i n r k
 unfolding longer
@@ -57,36 +59,72 @@ longer-least i n r k = by (eqb k i)
     by true = omega arith
     by false = omega arith
 
-pub longer-listed : (r : Piece → ℕ → ℕ) (i n : ℕ) → listedReaches cumulus (λ p. longer i n (reachesOf (listedReaches cumulus r) p)) ≡ listedReaches cumulus (λ p. longer i n (r p))
-longer-listed r i n = listed-ext 0 (reachCount cumulus) _ _ each
-  where
-    each : (k : ℕ) → k < reachCount cumulus → reachAt (λ p. longer i n (reachesOf (listedReaches cumulus r) p)) k ≡ reachAt (λ p. longer i n (r p)) k
-    each zero h = longer-at _ (r low) i n 0 (listed-reach r cumulus 0 h)
-    each (suc k) h = longer-at _ (r high) i n k (listed-reach r cumulus (suc k) h)
+longer-at : (i n : ℕ) (r q : ℕ → ℕ) (k : ℕ) → r k ≡ q k → longer i n r k ≡ longer i n q k
+unfolding longer
+longer-at i n r q k e = ap (λ m. cond (eqb k i) (m + n) m) e
 
--- ════ a move of a table with good limits
-module _ (t : List ℤ) (i : ℕ) (s : ℤ) (h : i < cumulus .variables) (g : good cumulus t ≡ true) where
-  pub move-far : longestShift < natAbs s → allInRange cumulus (movedLimits cumulus i s t) ≡ false
-  move-far k = not-so (λ e. let near : natAbs s ≤ longestShift = move-within cumulus i s t h g e in omega arith)
+module _ (m : Model) (t : List ℤ) (i : ℕ) (s : ℤ) where
+  abbrev S : Shape
+  S = shape m
 
-  -- that keeps them in range
-  pub lengthened : allInRange cumulus (movedLimits cumulus i s t) ≡ true → Lengthened (listedReaches cumulus (reach (movedLimits cumulus i s t))) (natAbs s)
-  lengthened e = record { fits = λ k l. rw (listed-reach moved cumulus k l) (omega (arith, each k l, move-within cumulus i s t h g e)) }
-    where
-      moved : Piece → ℕ → ℕ
-      moved = reach (movedLimits cumulus i s t)
+  abbrev moved : List ℤ
+  moved = movedLimits S i s t
 
-      within : (p : Piece) (k : ℕ) → k < cumulus .variables → moved p k ≤ farthestLimit
-      within p k l = moved-reach-within cumulus i s t (omega arith) e g p k l
+  -- the limits taken from the table, moved in their room
+  abbrev pub movedRoom : List ℤ
+  movedRoom = listed limitsRoom (movedLimit S i s (taken m t))
 
-      each : (k : ℕ) → k < reachCount cumulus → reachAt moved k ≤ farthestLimit
-      each zero l = within low 0 (omega arith)
-      each (suc k) l = within high k (omega arith)
+  pub same-moved : SameLimits S movedRoom moved
+  unfolding movedLimit
+  same-moved =
+      record {
+        at = λ k h.
+            let l : k < limitsRoom = omega (arith, few-limits m) in
+            getD-listed limitsRoom (movedLimit S i s (taken m t)) k (pos 0) l ∙ ap (λ z. cond (eqb (owner S k) i) (z -ℤ s) z) (getD-take limitsRoom t k (pos 0) l) ∙ sym (getD-movedLimits S i s t k h);
+      }
 
--- ════ the reaches of the weight rule
-module _ (t : List ℤ) (i : ℕ) (s : ℤ) where
-  pub move-one : (p : Piece) (k : ℕ) → 1 ≤ moveReach cumulus i s t p k
-  move-one p k = N.le-trans (reach-one (movedLimits cumulus i s t) p k) (longer-least i (natAbs s) (reach (movedLimits cumulus i s t) p) k)
+  pub moved-written : take (limitsLength S) movedRoom ≡ moved
+  unfolding movedLimits
+  moved-written =
+      sym (listed-is (pos 0) (limitsLength S) (movedLimit S i s t) (take (limitsLength S) movedRoom) (length-take-le (limitsLength S) movedRoom (omega (arith, few-limits m, length-listed limitsRoom (movedLimit S i s (taken m t))))) (λ k h. getD-take (limitsLength S) movedRoom k (pos 0) h ∙ same-moved .at k h ∙ getD-movedLimits S i s t k h))
 
-  pub move-other : (k : ℕ) → moveReach cumulus i s t low (suc k) ≡ moveReach cumulus i s t high (suc k)
-  move-other = longer-other (reach (movedLimits cumulus i s t)) (reach-other (movedLimits cumulus i s t)) i (natAbs s)
+  -- what `Limits::moved` gives of limits that are taken from the table
+  pub moved-held : (k l : Limits) (z : ℤ) → (k .model ≡ m) × (k .numbers ≡ taken m t) → z ≡ s → (l .model ≡ k .model) × (l .numbers ≡ listed limitsRoom (movedLimit (shape (k .model)) i z (k .numbers)))
+      → (l .model ≡ m) × (l .numbers ≡ movedRoom)
+  moved-held k l z a e b = (b .0 ∙ a .0, b .1 ∙ (λ j. listed limitsRoom (movedLimit (shape (a .0 j)) i (e j) (a .1 j))))
+
+  -- limits that hold them
+  module _ (l : Limits) (e : (l .model ≡ m) × (l .numbers ≡ movedRoom)) where
+    pub moved-range : allInRange (shape (l .model)) (l .numbers) ≡ allInRange S moved
+    moved-range = (λ j. allInRange (shape (e .0 j)) (e .1 j)) ∙ allInRange-same same-moved
+
+    pub moved-reaches : listedReaches (reach (shape (l .model)) (l .numbers)) ≡ listedReaches (reach S movedRoom)
+    moved-reaches = λ j. listedReaches (reach (shape (e .0 j)) (e .1 j))
+
+  -- ════ the reaches of the weight rule
+  abbrev pub longerReach : Piece → ℕ → ℕ
+  longerReach p = longer i (natAbs s) (reach S movedRoom p)
+
+  pub move-one : (p : Piece) (k : ℕ) → 1 ≤ longerReach p k
+  move-one p k = N.le-trans (reach-one S movedRoom p k) (longer-least i (natAbs s) (reach S movedRoom p) k)
+
+  pub move-light : withinCap S t (reachesOf (listedReaches longerReach)) ≡ moveLight S i s t
+  move-light =
+      light-listed m t longerReach (longer-other (reach S movedRoom) (reach-other S movedRoom) i (natAbs s))
+      ∙ withinCap-agreed S (well-formed m .in-variables) t longerReach (moveReach S i s t) (λ p k h. longer-at i (natAbs s) (reach S movedRoom p) (reach S moved p) k (reach-same same-moved p k h))
+
+  -- ════ a move of a table with good limits
+  module _ (h : i < S .variables) (g : good S t ≡ true) where
+    pub move-far : longestShift < natAbs s → allInRange S moved ≡ false
+    move-far k = not-so (λ e. let near : natAbs s ≤ longestShift = move-within S i s t h g e in omega arith)
+
+    -- that keeps them in range
+    pub lengthened : allInRange S moved ≡ true → Lengthened (listedReaches (reach S movedRoom)) i (natAbs s)
+    lengthened e = record { fits = λ k l o. rw (listed-reach (reach S movedRoom) k l) (omega (arith, each k o, move-within S i s t h g e)) }
+      where
+        within : (p : Piece) → reach S movedRoom p i ≤ farthestLimit
+        within p = N.le-trans (N.le-of-eq (reach-same same-moved p i h)) (moved-reach-within S i s t (well-formed m .has-variable) e g p i h)
+
+        each : (k : ℕ) → k - 1 ≡ i → reachAt (reach S movedRoom) k ≤ farthestLimit
+        each zero o = let q : i ≡ 0 = omega arith in subst (λ v. reach S movedRoom low v ≤ farthestLimit) q (within low)
+        each (suc k) o = let q : i ≡ k = omega arith in subst (λ v. reach S movedRoom high v ≤ farthestLimit) q (within high)

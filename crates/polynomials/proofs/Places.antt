@@ -22,15 +22,13 @@ below-suc : (n : ℕ) → below (suc n) ≡ below n + suc n
 unfolding below
 below-suc n = refl
 
--- for the degrees that the code serves
-pub below-is : (n : ℕ) → n ≤ highestDegree → n * (n + 1) / 2 ≡ below n
+twice-below : (n : ℕ) → n * (n + 1) ≡ 2 * below n
 unfolding below
-below-is zero h = refl
-below-is (suc zero) h = refl
-below-is (suc (suc zero)) h = refl
-below-is (suc (suc (suc zero))) h = refl
-below-is (suc (suc (suc (suc zero)))) h = refl
-below-is (suc (suc (suc (suc (suc n))))) h = absurd (omega arith)
+twice-below zero = refl
+twice-below (suc n) = omega (arith, twice-below n, N.suc-mul n (suc n + 1), N.mul-suc n (n + 1))
+
+pub below-is : (n : ℕ) → n * (n + 1) / 2 ≡ below n
+below-is n = omega (arith, twice-below n)
 
 pub below-highest : size highestDegree ≡ 15
 unfolding below

@@ -22,6 +22,7 @@ use denote.Triple.Clauses.{Ended, Lasts, AtExit, atExit}
 use Rattle.polynomials.specs.Limits.{cap}
 use Rattle.polynomials.specs.Ready.{Reached}
 use Rattle.polynomials.specs.declared.Reach.{Reach}
+use Rattle.layout.specs.declared.Model.{Model}
 use Rattle.limits.specs.declared.Limits.{Limits}
 use Rattle.printing.specs.Spell.{written}
 use Rattle.answers.specs.Reading.{readingsAfter, answersOf, Feeding}
@@ -30,6 +31,7 @@ use Rattle.answers.specs.declared.Fed.{Fed}
 use Rattle.whole.proofs as whole
 use Rattle.polynomials.proofs as polynomials
 use Rattle.shifting.proofs as shifting
+use Rattle.layout.proofs as layout
 use Rattle.limits.proofs as limits
 use Rattle.weights.proofs as weights
 use Rattle.blocks.proofs as blocks
@@ -121,12 +123,49 @@ multiplied-out-tight κs a o p = tight o p (search same)
 pub move-group-tight : Tight shifting.move_group.ended shifting.move_group.Reads.Post
 move-group-tight κs a o p = tight o p (search same)
 
+-- ════ layout
+pub kind-size-tight : Tight layout.Kind.size.ended layout.Kind.size.Reads.Post
+kind-size-tight κs a o p = tight o p (search same)
+
+pub model-variables-tight : Tight layout.Model.variables.ended layout.Model.variables.Reads.Post
+model-variables-tight κs a o p = tight o p (search same)
+
+pub model-blocks-tight : Tight layout.Model.blocks.ended layout.Model.blocks.Reads.Post
+model-blocks-tight κs a o p = tight o p (search same)
+
+pub model-groups-tight : Tight layout.Model.groups.ended layout.Model.groups.Reads.Post
+model-groups-tight κs a o p = tight o p (search same)
+
+pub model-limits-tight : Tight layout.Model.limits.ended layout.Model.limits.Reads.Post
+model-limits-tight κs a o p = tight o p (search same)
+
+pub model-block-tight : Tight layout.Model.block.ended layout.Model.block.Reads.Post
+model-block-tight κs a o p = tight o p (search same)
+
+pub model-table-tight : Tight layout.Model.table.ended layout.Model.table.Reads.Post
+model-table-tight κs a o p = tight o p (search same)
+
+pub model-start-tight : Tight layout.Model.start.ended layout.Model.start.Reads.Post
+model-start-tight κs a o p = tight o p (search same)
+
+pub model-outside-tight : Tight layout.Model.outside.ended layout.Model.outside.Reads.Post
+model-outside-tight κs a o p = tight o p (search same)
+
+pub model-kind-tight : Tight layout.Model.kind.ended layout.Model.kind.Reads.Post
+model-kind-tight κs a o p = tight o p (search same)
+
+pub cumulus-one-kind-tight : Tight layout.cumulus_one.kind.ended layout.cumulus_one.kind.Reads.Post
+cumulus-one-kind-tight κs a o p = tight o p (search same)
+
+pub gtm-longitudinal-kind-tight : Tight layout.gtm_longitudinal.kind.ended layout.gtm_longitudinal.kind.Reads.Post
+gtm-longitudinal-kind-tight κs a o p = tight o p (search same)
+
 -- ════ limits
-same-limits : {x y : Limits} → x .numbers ≡ y .numbers → x ≡ y
-same-limits e i = record { numbers = e i }
+same-limits : {x y : Limits} {m : Model} {n : List ℤ} → (x .model ≡ m) × (x .numbers ≡ n) → (y .model ≡ m) × (y .numbers ≡ n) → x ≡ y
+same-limits h k i = record { model = same (h .0) (k .0) i; numbers = same (h .1) (k .1) i }
 
 pub limits-of-tight : Tight limits.Limits.of.ended limits.Limits.of.Reads.Post
-limits-of-tight κs a o p = tight o p (search (same, same-limits))
+limits-of-tight κs a o p = tight o p (same-limits (o .allowed) (p .allowed), tt)
 
 pub limits-lowest-tight : Tight limits.Limits.lowest.ended limits.Limits.lowest.Reads.Post
 limits-lowest-tight κs a o p = tight o p (search same)
@@ -141,7 +180,7 @@ pub limits-good-tight : Tight limits.Limits.good.ended limits.Limits.good.Reads.
 limits-good-tight κs a o p = tight o p (search same)
 
 pub limits-moved-tight : Tight limits.Limits.moved.ended limits.Limits.moved.Reads.Post
-limits-moved-tight κs a o p = tight o p (search (same, same-limits))
+limits-moved-tight κs a o p = tight o p (same-limits (o .allowed) (p .allowed), tt)
 
 pub limits-reaches-tight : Tight limits.Limits.reaches.ended limits.Limits.reaches.Reads.Post
 limits-reaches-tight κs a o p = tight o p (search same)
@@ -152,8 +191,8 @@ limits-inside-tight κs a o p = tight o p (search same)
 pub limits-outside-tight : Tight limits.Limits.outside.ended limits.Limits.outside.Reads.Post
 limits-outside-tight κs a o p = tight o p (search same)
 
-pub limits-in-low-piece-tight : Tight limits.Limits.in_low_piece.ended limits.Limits.in_low_piece.Reads.Post
-limits-in-low-piece-tight κs a o p = tight o p (search same)
+pub limits-piece-tight : Tight limits.Limits.piece.ended limits.Limits.piece.Reads.Post
+limits-piece-tight κs a o p = tight o p (search same)
 
 -- ════ weights
 pub within-cap-tight : Tight weights.within_cap.ended weights.within_cap.Reads.Post
@@ -176,15 +215,22 @@ refusal-of-tight κs a o p = tight o p (search same)
 pub read-known-tight : Tight tables.reading.read_known.ended tables.reading.read_known.Reads.Post
 read-known-tight κs a o p = tight o p (search same)
 
-pub read-tight : Tight tables.reading.read.ended tables.reading.read.Reads.Post
-read-tight κs a o p = tight o p (search same)
+pub refusal-into-tight : Tight tables.soundness.refusal_into.ended tables.soundness.refusal_into.Reads.Post
+refusal-into-tight κs a o p = tight o p (search same)
 
-pub move-datum-tight : Tight moving.move_datum.ended moving.move_datum.Reads.Post
-move-datum-tight κs a o p = tight o p (search same)
+-- ════ moving
+pub model-move-datum-tight : Tight moving.move_datum.ended moving.move_datum.Reads.Post
+model-move-datum-tight κs a o p = tight o p (search same)
 
 -- ════ cumulus
 pub publish-tight : Tight cumulus.publish.ended cumulus.publish.Reads.Post
 publish-tight κs a o p = tight o p (search same)
+
+pub read-tight : Tight cumulus.read.ended cumulus.read.Reads.Post
+read-tight κs a o p = tight o p (search same)
+
+pub move-datum-tight : Tight cumulus.move_datum.ended cumulus.move_datum.Reads.Post
+move-datum-tight κs a o p = tight o p (search same)
 
 -- ════ microradians
 pub read-microradians-tight : Tight microradians.read.ended microradians.read.Reads.Post

@@ -1,6 +1,6 @@
 // A table read at floats, which are told by their bit patterns.
 use door::Answer;
-use layout::VARIABLES;
+use layout::cumulus_one::VARIABLES;
 use texts::OUT;
 use texts::put_bits;
 use texts::put_natural;

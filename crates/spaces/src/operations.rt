@@ -21,7 +21,7 @@ use super::rooms::length_of;
 use super::rooms::start_of;
 use commands::Operation;
 use door::Answer;
-use layout::VARIABLES;
+use layout::cumulus_one::VARIABLES;
 use layout::refusals::DONE;
 use texts::OUT;
 use texts::put_named;
@@ -108,7 +108,7 @@ fn moved(
     let first = start_of(space);
     let last = first + length;
     let from = MARGIN;
-    moving::move_datum(
+    cumulus::move_datum(
         &spaces[first..last],
         variable as usize,
         shift,
@@ -147,7 +147,7 @@ fn values(
     let first = start_of(space);
     let last = first + length;
     let from = MARGIN;
-    tables::reading::read(&spaces[first..last], readings, &mut lent[from..end])
+    cumulus::read(&spaces[first..last], readings, &mut lent[from..end])
 }
 
 fn read(

@@ -1,53 +1,68 @@
--- The limits as the code takes them from a Cumulus One table, and the reaches it works out from them.
+-- The limits as the code takes them from a model's table, and the reaches it works out from them.
 --   good-taken, range-taken, outside-taken, cut-taken   the limits taken tell what the table's tell
+--   reaches-taken               their reaches, as they come back
 --   light-listed, light-taken   the weight check at listed reaches is that at the reaches; at the limits taken it is the table's
 use mathlib.Core.Path.{_≡_, refl, _∙_, ap}
 use mathlib.Core.Bool.{true, not}
 use mathlib.Core.List.{List, []}
 use Prim.Native.Nat.{ℕ, suc}
 use native.Mathlib.Omega.{arith}
-use lib.IntN.{ℤ}
+use lib.IntN.{ℤ, pos}
 use lib.ListN.{take}
+use lib.Seq.{getD-take}
 use Rattle.polynomials.specs.Sum.{listed}
 use Rattle.polynomials.proofs.Listed.{listed-ext}
-use Rattle.layout.specs.Shape.{limitsLength, cumulus}
+use Rattle.layout.specs.declared.Model.{Model}
+use Rattle.layout.specs.Shape.{Shape, shape}
+use Rattle.layout.specs.Numbers.{limitsRoom}
 use Rattle.layout.specs.Limits.{allInRange, good, cut}
 use Rattle.layout.specs.Blocks.{Piece, low, high}
 use Rattle.layout.specs.Sound.{reach, withinCap, light}
 use Rattle.layout.specs.Reaches.{listedReaches, reachesOf}
 use Rattle.layout.specs.Refusals.{first, _when_, outside}
 use Rattle.layout.specs.Reading.{inside}
-use Rattle.layout.proofs.LimitLaws.{SameLimits, limits-take, good-same, allInRange-same, reach-same, inside-same, cut-same}
+use Rattle.layout.proofs.Fine.{well-formed, few-variables, few-limits}
+use Rattle.layout.proofs.LimitLaws.{SameLimits, good-same, allInRange-same, reach-same, inside-same, cut-same}
 use Rattle.layout.proofs.Reaches.{reach-other, listed-back}
-use Rattle.layout.proofs.Weights.{cumulus-variables, withinCap-agreed}
+use Rattle.layout.proofs.Refused.{refusedReadings}
+use Rattle.layout.proofs.Weights.{withinCap-agreed}
+use Rattle.limits.specs.declared.Limits.{Limits}
 
 pub first-nothing : first [] ≡ 0
 unfolding first
 first-nothing = refl
 
--- the limits taken from a table
-abbrev pub taken : List ℤ → List ℤ
-taken t = take (limitsLength cumulus) t
+module _ (m : Model) (t : List ℤ) where
+  abbrev S : Shape
+  S = shape m
 
-same : (t : List ℤ) → SameLimits cumulus (taken t) t
-same t = limits-take cumulus t
+  -- the first numbers of a table, as `Limits::of` takes them
+  abbrev pub taken : List ℤ
+  taken = take limitsRoom t
 
-pub good-taken : (t : List ℤ) → good cumulus (taken t) ≡ good cumulus t
-good-taken t = good-same (same t) (omega arith)
+  same : SameLimits S taken t
+  same = record { at = λ k h. getD-take limitsRoom t k (pos 0) (omega (arith, few-limits m)) }
 
-pub range-taken : (t : List ℤ) → allInRange cumulus (taken t) ≡ allInRange cumulus t
-range-taken t = allInRange-same (same t)
+  -- ════ the weight check at listed reaches
+  pub light-listed : (r : Piece → ℕ → ℕ) → ((i : ℕ) → r low (suc i) ≡ r high (suc i)) → withinCap S t (reachesOf (listedReaches r)) ≡ withinCap S t r
+  light-listed r other = withinCap-agreed S (well-formed m .in-variables) t _ r (λ p i h. listed-back r other p i (omega (arith, few-variables m)))
 
-pub cut-taken : (t : List ℤ) → cut (taken t) ≡ cut t
-cut-taken t = cut-same (same t) (omega arith)
+  pub light-taken : withinCap S t (reachesOf (listedReaches (reach S taken))) ≡ light S t
+  light-taken = light-listed (reach S taken) (reach-other S taken) ∙ withinCap-agreed S (well-formed m .in-variables) t (reach S taken) (reach S t) (reach-same same)
 
-pub outside-taken : (t : List ℤ) (x : ℕ → ℤ) → first (listed (cumulus .variables) (λ i. outside i when not (inside (taken t) x i))) ≡ first (listed (cumulus .variables) (λ i. outside i when not (inside t x i)))
-outside-taken t x = ap first (listed-ext (0 when true) (cumulus .variables) _ _ (λ i h. ap (λ b. outside i when not b) (inside-same (same t) x i h)))
+  -- ════ limits that hold them
+  module _ (l : Limits) (e : (l .model ≡ m) × (l .numbers ≡ taken)) where
+    pub good-taken : good (shape (l .model)) (l .numbers) ≡ good S t
+    good-taken = (λ i. good (shape (e .0 i)) (e .1 i)) ∙ good-same same (well-formed m .has-variable)
 
--- ════ the weight check at listed reaches
-pub light-listed : (t : List ℤ) (r : Piece → ℕ → ℕ) → ((i : ℕ) → r low (suc i) ≡ r high (suc i)) → withinCap cumulus t (reachesOf (listedReaches cumulus r)) ≡ withinCap cumulus t r
-light-listed t r same = withinCap-agreed cumulus cumulus-variables t _ r (listed-back r cumulus same)
+    pub range-taken : allInRange (shape (l .model)) (l .numbers) ≡ allInRange S t
+    range-taken = (λ i. allInRange (shape (e .0 i)) (e .1 i)) ∙ allInRange-same same
 
--- at the table's own
-pub light-taken : (t : List ℤ) → withinCap cumulus t (reachesOf (listedReaches cumulus (reach (taken t)))) ≡ light cumulus t
-light-taken t = light-listed t (reach (taken t)) (reach-other (taken t)) ∙ withinCap-agreed cumulus cumulus-variables t (reach (taken t)) (reach t) (reach-same (same t))
+    pub cut-taken : cut (shape (l .model)) (l .numbers) ≡ cut S t
+    cut-taken = (λ i. cut (shape (e .0 i)) (e .1 i)) ∙ cut-same same (well-formed m .has-variable)
+
+    pub outside-taken : (x : ℕ → ℤ) → first (refusedReadings (shape (l .model)) (l .numbers) x) ≡ first (refusedReadings S t x)
+    outside-taken x = (λ i. first (refusedReadings (shape (e .0 i)) (e .1 i) x)) ∙ ap first (listed-ext (0 when true) (S .variables) _ _ (λ i h. ap (λ b. outside S i when not b) (inside-same same x i h)))
+
+    pub reaches-taken : listedReaches (reach (shape (l .model)) (l .numbers)) ≡ listedReaches (reach S taken)
+    reaches-taken = λ i. listedReaches (reach (shape (e .0 i)) (e .1 i))

@@ -7,26 +7,38 @@ use lib.Dec.{eqb}
 use lib.IntN.{ℤ}
 use lib.ListN.{length}
 use Rattle.blocks.specs.Ready.{Valued}
-use Rattle.layout.specs.Shape.{tableLength, cumulus}
+use Rattle.layout.specs.Shape.{Shape, tableLength}
 use Rattle.layout.specs.Limits.{good}
 use Rattle.layout.specs.Sound.{light}
-use Rattle.layout.specs.Refusals.{Refusal, _when_, first, wrongTable, badLimits, tooHeavy}
+use Rattle.layout.specs.Refusals.{Refusal, _when_, first, wrongTable, wrongOutput, badLimits, tooHeavy}
 
 -- to read every block's coefficient into an output
-pub record AllValued (t : List ℤ) (n : ℕ) (x out : List ℤ) : Type 0 where
-  pub room : length out ≡ cumulus .blocks
-  pub valued : (b : ℕ) → b < cumulus .blocks → Valued t b n x
+pub record AllValued (S : Shape) (t : List ℤ) (n : ℕ) (x out : List ℤ) : Type 0 where
+  pub room : length out ≡ S .blocks
+  pub valued : (b : ℕ) → b < S .blocks → Valued S t b n x
+
+-- what makes a table of the right length unsound
+abbrev pub unsound : Shape → List ℤ → List Refusal
+unsound S t = (badLimits when not (good S t)) ∷ (tooHeavy when not (light S t)) ∷ []
 
 -- what a table is refused for by itself, and the first of it
-abbrev pub tableRefusals : List ℤ → List Refusal
-tableRefusals t = (wrongTable when not (eqb (length t) (tableLength cumulus))) ∷ (badLimits when not (good cumulus t)) ∷ (tooHeavy when not (light cumulus t)) ∷ []
+abbrev pub tableRefusals : Shape → List ℤ → List Refusal
+tableRefusals S t = (wrongTable when not (eqb (length t) (tableLength S))) ∷ unsound S t
 
-abbrev pub tableNumber : List ℤ → ℕ
-tableNumber t = first (tableRefusals t)
+abbrev pub tableNumber : Shape → List ℤ → ℕ
+tableNumber S t = first (tableRefusals S t)
+
+-- what it is refused for, whatever the readings are, where its coefficients go into n numbers
+abbrev pub intoRefusals : Shape → List ℤ → ℕ → List Refusal
+intoRefusals S t n = (wrongTable when not (eqb (length t) (tableLength S))) ∷ (wrongOutput when not (eqb n (S .blocks))) ∷ unsound S t
+
+abbrev pub intoNumber : Shape → List ℤ → ℕ → ℕ
+intoNumber S t n = first (intoRefusals S t n)
 
 -- to read a table that is known to be sound
-pub record SoundRead (t out : List ℤ) : Type 0 where
-  pub whole : length t ≡ tableLength cumulus
-  pub room : length out ≡ cumulus .blocks
-  pub limits : good cumulus t ≡ true
-  pub weights : light cumulus t ≡ true
+pub record SoundRead (S : Shape) (t x out : List ℤ) : Type 0 where
+  pub whole : length t ≡ tableLength S
+  pub room : length out ≡ S .blocks
+  pub state : length x ≡ S .variables
+  pub limits : good S t ≡ true
+  pub weights : light S t ≡ true

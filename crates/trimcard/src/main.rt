@@ -1,6 +1,6 @@
 // Answers each line of five readings on standard input with the number given back and the six coefficients of the published table.
 use answers::Reading;
-use layout::TABLE;
+use layout::cumulus_one::TABLE;
 use libc::STDIN_FILENO;
 use libc::STDOUT_FILENO;
 ghost use mathlib.Core.Path.{_≡_};

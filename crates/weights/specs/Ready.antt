@@ -1,33 +1,52 @@
--- What the weight check asks of a table and of reaches, and the side groups that it weighs.
+-- What the weight check asks of a table and of reaches.
 use mathlib.Core.Path.{_≡_}
 use mathlib.Core.List.{List}
-use Prim.Native.Nat.{ℕ, zero, suc, _+_, _*_, _≤_, _<_}
+use Prim.Native.Nat.{ℕ, suc, _+_, _≤_, _<_}
 use lib.IntN.{ℤ}
-use lib.ListN.{length, take, drop, getD}
-use Rattle.polynomials.specs.Group.{weight}
+use lib.ListN.{length, getD}
+use Rattle.polynomials.specs.Order.{size}
+use Rattle.polynomials.specs.Limits.{highestDegree}
 use Rattle.polynomials.specs.Ready.{Reached}
 use Rattle.polynomials.specs.declared.Reach.{Reach}
-use Rattle.layout.specs.Shape.{tableLength, cumulus}
-use Rattle.layout.specs.Numbers.{blockSize, sideSize, xiStart}
-use Rattle.layout.specs.Reaches.{reachCount}
+use Rattle.layout.specs.declared.Kind.{Kind}
+use Rattle.layout.specs.Shape.{Shape, blockLength, tableLength}
+use Rattle.layout.specs.Numbers.{variablesRoom, reachesRoom}
 
--- of two things, the first for 0
-abbrev pub either : {A : Type 0} → ℕ → A → A → A
-either zero a b = a
-either (suc n) a b = b
+-- the reach at a place of a list
+abbrev pub reachIn : List Reach → ℕ → Reach
+reachIn l k = getD l k (record { size = 0; most = 0 })
 
--- the weight of the k-th side group of a block that starts at a place
-abbrev pub sideWeight : List ℤ → ℕ → Reach → Reach → Reach → ℕ → ℕ
-sideWeight t start beta xi zeta k = weight (take sideSize (drop (start + xiStart + sideSize * k) t)) (beta .size) (either k xi zeta .size)
+-- those of the high piece, by their variables: beside variable 0 the low piece has the same
+abbrev pub highIn : List Reach → ℕ → ℕ
+highIn l i = reachIn l (suc i) .size
 
--- to weigh the side groups
-pub record Sided (t : List ℤ) (start : ℕ) (b x z : Reach) : Type 0 where
-  pub inside : start + blockSize ≤ length t
-  pub beta : Reached b
-  pub xi : Reached x
-  pub zeta : Reached z
+abbrev pub AllReached : List Reach → Type 0
+AllReached l = (k : ℕ) → k < reachesRoom → Reached (reachIn l k)
 
--- to weigh a table at reaches that are each at least 1
-pub record Checkable (t : List ℤ) (l : List ℕ) : Type 0 where
-  pub whole : length t ≡ tableLength cumulus
-  pub one : (k : ℕ) → k < reachCount cumulus → 1 ≤ getD l k 0
+-- each of the sizes is at least 1
+abbrev pub AtLeastOne : List ℕ → Type 0
+AtLeastOne l = (k : ℕ) → k < reachesRoom → 1 ≤ getD l k 0
+
+-- reaches of given sizes
+pub record Measured (sizes : List ℕ) (l : List Reach) : Type 0 where
+  pub long : length l ≡ reachesRoom
+  pub same : (k : ℕ) → k < reachesRoom → reachIn l k .size ≡ getD sizes k 0
+  pub reached : AllReached l
+
+-- to weigh the group of a kind that starts at a place
+pub record GroupWeighable (t : List ℤ) (at : ℕ) (k : Kind) (l : List Reach) : Type 0 where
+  pub inside : at + size (k .degree) ≤ length t
+  pub few : k .degree ≤ highestDegree
+  pub first : k .u < variablesRoom
+  pub second : k .v < variablesRoom
+  pub reached : AllReached l
+
+-- to weigh the groups that the pieces share, of the block that starts at a place
+pub record Shareable (S : Shape) (t : List ℤ) (start : ℕ) (l : List Reach) : Type 0 where
+  pub inside : start + blockLength S ≤ length t
+  pub reached : AllReached l
+
+-- to weigh a table at reaches of given sizes
+pub record Checkable (S : Shape) (t : List ℤ) (sizes : List ℕ) : Type 0 where
+  pub whole : length t ≡ tableLength S
+  pub one : AtLeastOne sizes

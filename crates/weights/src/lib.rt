@@ -1,112 +1,111 @@
 // The weights of the coefficients, against the cap.
 ghost use mathlib.Core.Path.{_≡_};
-ghost use Prim.Native.Nat.{_+_, _<_, _≤_};
-ghost use lib.ListN.{getD};
+ghost use lib.ListN.{drop};
+ghost use Rattle.polynomials.specs.Groups.{weightOf, totalWeight};
 ghost use Rattle.polynomials.specs.Limits.{against};
-ghost use Rattle.polynomials.specs.Ready.{Reached};
-ghost use Rattle.layout.specs.Shape.{cumulus};
+ghost use Rattle.layout.specs.Shape.{shape, shared, sharedAt};
+ghost use Rattle.layout.specs.Blocks.{led, groups};
 ghost use Rattle.layout.specs.Sound.{withinCap};
-ghost use Rattle.layout.specs.Reaches.{reachCount, reachesOf};
-ghost use Rattle.weights.specs.Ready.{either, sideWeight, Sided, Checkable};
-use layout::BLOCK;
-use layout::BLOCKS;
-use layout::LIMITS;
-use layout::PITCH;
-use layout::PITCH_DEGREE;
-use layout::REACHES;
-use layout::SIDE;
-use layout::SIDE_DEGREE;
-use layout::XI_START;
+ghost use Rattle.layout.specs.Reaches.{reachesOf};
+ghost use Rattle.weights.specs.Ready.{highIn, AtLeastOne, Measured, GroupWeighable, Shareable, Checkable};
+use layout::Kind;
+use layout::Model;
+use layout::REACHES_ROOM;
 use polynomials::CAP;
 use polynomials::Reach;
 use polynomials::Weighed;
 use polynomials::add_row;
 use polynomials::weight_at;
 
-// Low and high.
+// Low and high, each with a group of its own, which come first in a block.
 const PIECES: usize = 2;
 
-// Of beta and xi, and of beta and zeta.
-const SIDES: usize = 2;
-
-// A group in alpha and eta has a row of terms for each power of eta.
-const PITCH_ROWS: usize = PITCH_DEGREE + 1;
-
-// One of the reaches, with the most that it multiplies within the cap.
-fn reach_at(reaches: [u64; REACHES], place: usize) -> Reach
-    requires { ⌜ (place < reachCount cumulus) × (1 ≤ getD reaches place 0) ⌝ }
-    ensures { λ r. ⌜ (r .size ≡ getD reaches place 0) × Reached r ⌝ }
+// The reaches of the given sizes, each with the most that it multiplies within the cap.
+fn all_reaches(sizes: [u64; REACHES_ROOM]) -> [Reach; REACHES_ROOM]
+    requires { ⌜ AtLeastOne sizes ⌝ }
+    ensures { λ r. ⌜ Measured sizes r ⌝ }
 {
-    Reach::of(reaches[place])
-}
-
-// Of two reaches, the first for 0.
-fn either(k: usize, a: Reach, b: Reach) -> Reach
-    ensures { λ r. ⌜ r ≡ either k a b ⌝ }
-{
-    if k == 0 {
-        return a;
-    }
-    b
-}
-
-// The weight of both side groups of the block that starts at a place, or that it passes the cap.
-fn sides(table: &[i64], start: usize, beta: Reach, xi: Reach, zeta: Reach) -> Weighed
-    requires { ⌜ Sided (now table) start beta xi zeta ⌝ }
-    ensures { λ r. ⌜ r ≡ against (sideWeight (now (table .entry)) start beta xi zeta 0 + sideWeight (now (table .entry)) start beta xi zeta 1) ⌝ }
-{
-    let mut sum: u64 = 0;
+    let mut reaches = [Reach::of(1); REACHES_ROOM];
     let mut k: usize = 0;
-    while k < SIDES {
-        let from = start + XI_START + SIDE * k;
-        let to = from + SIDE;
-        let second = either(k, xi, zeta);
-        let Weighed::Within(more) = weight_at(&table[from..to], SIDE_DEGREE, beta, second) else {
+    while k < REACHES_ROOM {
+        let reach = Reach::of(sizes[k]);
+        reaches[k] = reach;
+        k += 1;
+    }
+    reaches
+}
+
+// The weight of the group of a kind that starts at a place, at the reaches of the high piece, or that it passes the cap.
+fn weight_of(table: &[i64], at: usize, kind: Kind, reaches: [Reach; REACHES_ROOM]) -> Weighed
+    requires { ⌜ GroupWeighable (now table) at kind reaches ⌝ }
+    ensures { λ r. ⌜ r ≡ against (weightOf (led kind (drop at (now (table .entry)))) (highIn reaches)) ⌝ }
+{
+    let u = kind.u + 1;
+    let v = kind.v + 1;
+    let end = at + kind.size();
+    weight_at(&table[at..end], kind.degree, reaches[u], reaches[v])
+}
+
+// The weight of the groups that count in both pieces, of the block that starts at a place, or that it passes the cap.
+fn shared(model: Model, table: &[i64], start: usize, reaches: [Reach; REACHES_ROOM]) -> Weighed
+    requires { ⌜ Shareable (shape model) (now table) start reaches ⌝ }
+    ensures { λ r. ⌜ r ≡ against (totalWeight (groups (shared (shape model)) (drop (sharedAt (shape model) start) (now (table .entry)))) (highIn reaches)) ⌝ }
+{
+    let own = model.kind(0);
+    let mut at = start + PIECES * own.size();
+    let mut sum: u64 = 0;
+    let mut group: usize = PIECES;
+    while group < model.groups() {
+        let kind = model.kind(group);
+        let Weighed::Within(more) = weight_of(table, at, kind, reaches) else {
             return Weighed::Passed;
         };
         if more > CAP - sum {
             return Weighed::Passed;
         }
         sum += more;
-        k += 1;
+        at += kind.size();
+        group += 1;
     }
     Weighed::Within(sum)
 }
 
-// Whether every coefficient's weight in both pieces is within the cap, at the given reaches. It goes over the blocks, the pieces and their
+// Whether every coefficient's weight in both pieces is within the cap, at reaches of the given sizes. It goes over the blocks, the pieces and their
 // terms, a row of these at a time, and leaves at the first block and piece whose weight passes. What the pieces share is weighed once.
-pub fn within_cap(table: &[i64], reaches: [u64; REACHES]) -> bool
-    requires { ⌜ Checkable (now table) reaches ⌝ }
-    ensures { λ r. ⌜ r ≡ withinCap cumulus (now (table .entry)) (reachesOf reaches) ⌝ }
+pub fn within_cap(model: Model, table: &[i64], sizes: [u64; REACHES_ROOM]) -> bool
+    requires { ⌜ Checkable (shape model) (now table) sizes ⌝ }
+    ensures { λ r. ⌜ r ≡ withinCap (shape model) (now (table .entry)) (reachesOf sizes) ⌝ }
 {
-    let low = reach_at(reaches, 0);
-    let high = reach_at(reaches, 1);
-    let beta = reach_at(reaches, 2);
-    let xi = reach_at(reaches, 3);
-    let eta = reach_at(reaches, 4);
-    let zeta = reach_at(reaches, 5);
+    let reaches = all_reaches(sizes);
+    let own = model.kind(0);
+    let size = own.size();
+    let degree = own.degree;
+    let rows = degree + 1;
+    let second = own.v + 1;
+    let v = reaches[second];
+    let blocks = model.blocks();
     let mut ok = true;
-    'blocks: for block in 0..BLOCKS {
-        let start = LIMITS + BLOCK * block;
-        let Weighed::Within(shared) = sides(table, start, beta, xi, zeta) else {
+    'blocks: for block in 0..blocks {
+        let start = model.start(block);
+        let Weighed::Within(both) = shared(model, table, start, reaches) else {
             ok = false;
             break 'blocks;
         };
         for piece in 0..PIECES {
-            let alpha = either(piece, low, high);
-            let from = start + PITCH * piece;
-            let to = from + PITCH;
+            let u = reaches[piece];
+            let from = start + size * piece;
+            let to = from + size;
             let group = &table[from..to];
             let mut sum: u64 = 0;
-            for row in 0..PITCH_ROWS {
-                let q = PITCH_DEGREE - row;
-                let Weighed::Within(more) = add_row(sum, group, PITCH_DEGREE, q, alpha, eta) else {
+            for row in 0..rows {
+                let q = degree - row;
+                let Weighed::Within(more) = add_row(sum, group, degree, q, u, v) else {
                     ok = false;
                     break 'blocks;
                 };
                 sum = more;
             }
-            if sum > CAP - shared {
+            if sum > CAP - both {
                 ok = false;
                 break 'blocks;
             }

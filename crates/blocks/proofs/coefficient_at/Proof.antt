@@ -1,179 +1,230 @@
--- `blocks::coefficient_at` meets its contract: the three groups that count are read where they stand, and their weights bound the sums.
+-- `blocks::coefficient_at` meets its contract. The loop's invariant: what is summed, with the groups that are left, is the coefficient.
 -- Assumes nothing.
-use mathlib.Core.Path.{_≡_, sym, _∙_, ap, subst}
-use mathlib.Core.List.{List, [], _∷_}
-use Prim.Native.Nat.{ℕ, _+_, _*_, _≤_, _<_, max}
-use native.Mathlib.Nat as N
+use mathlib.Core.Path.{_≡_, refl, sym, _∙_, ap, subst, subst₂, subst₃}
+use mathlib.Core.List.{List, _∷_}
+use Prim.Native.Nat.{ℕ, _+_, _*_, _-_, _≤_, _<_}
 use native.Mathlib.Omega.{arith}
 use borrow.Author.Needs.{needs, sfits-of}
-use lib.IntN.{ℤ, natAbs, _+ℤ_, +ℤ-idr}
-use lib.ListN.{length, take, drop, length-take}
+use lib.IntN.{ℤ, _+ℤ_}
+use lib.ListN.{length, take, drop}
 use mir.Syntax.{w64}
 use mir.Val.{SFits, toZ, ofZ}
 use mir.Facts.{toZ-ofZ}
-use Rattle.whole.proofs.Magnitudes.{natAbs-+}
-use Rattle.whole.proofs.Machine.{natAbs-sfits, op-bits, op-back}
-use Rattle.polynomials.specs.Order.{below}
-use Rattle.polynomials.specs.Group.{value, weight}
-use Rattle.polynomials.specs.Groups.{grouped, Group, total, totalWeight}
-use Rattle.polynomials.specs.Limits.{cap}
-use Rattle.polynomials.specs.Ready.{Readable}
-use Rattle.polynomials.proofs.Bounds.{value-within}
-use Rattle.layout.specs.Shape.{kindsLength, cumulus}
-use Rattle.layout.specs.Numbers.{limitsSize, pitchSize, sideSize, xiStart, zetaStart, blockSize}
-use Rattle.layout.specs.Blocks.{piece, coefficient}
+use Rattle.whole.proofs.Machine.{op-bits, op-back}
+use Rattle.polynomials.specs.Order.{size}
+use Rattle.polynomials.specs.Group.{value}
+use Rattle.polynomials.specs.Groups.{valueOf, total}
+use Rattle.layout.specs.declared.Kind.{Kind}
+use Rattle.layout.specs.Shape.{Shape, blockStart, shape, own, ownAt, sharedAt}
+use Rattle.layout.specs.Numbers.{tableSize}
+use Rattle.layout.specs.Blocks.{piece, led, coefficient}
 use Rattle.layout.specs.Reading.{readings}
-use Rattle.blocks.specs.Ready.{GroupAt, Valued}
-use Rattle.layout.proofs.Parts.{coefficient-parts}
+use Rattle.layout.proofs.Fine.{FineKind, fine, fine-at, split, own-fine, two-groups, few-table}
+use Rattle.layout.proofs.Walk.{at-kind}
+use Rattle.blocks.specs.Ready.{GroupAt}
+use Rattle.blocks.proofs.Sums.{Summed, shared-long, own-long, own-ready, summed-own, summed-all, next-ready, more-fits, summed-more}
 use Rattle.blocks.proofs.coefficient_at.Statement.{statement}
 use Rattle.blocks.proofs.coefficient_at.Tie as tie
 
--- ---- a block that can be read
-module _ (t : List ℤ) (b n : ℕ) (state : List ℤ) (ready : Valued t b n state) where
-  abbrev x : ℕ → ℤ
-  x = readings state
+abbrev Inv-loop : tie.InvT-loop
+Inv-loop model table block piece· state size start at₀ sum₀ group₀ at sum group =
+    (group ≤ length (shape model .kinds)) × Summed (shape model) table state (total (coefficient (shape model) table block (piece piece·)) (readings state)) group at (toZ w64 sum)
 
-  abbrev r : ℕ → ℕ
-  r i = max 1 (natAbs (x i))
+abbrev μ-loop : tie.MeasureT-loop
+μ-loop model table block piece· state size start at₀ sum₀ group₀ at sum group = length (shape model .kinds) - group
 
-  abbrev own : List ℤ
-  own = take pitchSize (drop (limitsSize + blockSize * b + pitchSize * n) t)
+-- ---- where the piece's own group stands, and the shared ones
+module _ (c : tie.After-start Inv-loop μ-loop) where
+  abbrev entry : tie.Start Inv-loop μ-loop
+  entry = c .before .before .before
 
-  abbrev xi : List ℤ
-  xi = take sideSize (drop (limitsSize + blockSize * b + xiStart) t)
+  abbrev S₀ : Shape
+  S₀ = shape (entry .args .model)
 
-  abbrev zeta : List ℤ
-  zeta = take sideSize (drop (limitsSize + blockSize * b + zetaStart) t)
+  abbrev t₀ : List ℤ
+  t₀ = entry .args .table .now
 
-  abbrev three : List Group
-  three = grouped 0 3 own ∷ grouped 1 2 xi ∷ grouped 1 4 zeta ∷ []
+  abbrev b : ℕ
+  b = entry .args .block
 
-  weights : weight own (r 0) (r 3) + (weight xi (r 1) (r 2) + (weight zeta (r 1) (r 4) + 0)) ≤ cap
-  unfolding totalWeight
-  weights = subst (λ gs. totalWeight gs r ≤ cap) (coefficient-parts t b n (ready .half)) (ready .light)
+  abbrev n : ℕ
+  n = entry .args .piece
 
-  -- the place of every group is inside the table
-  long : limitsSize + blockSize * b + blockSize ≤ length t
-  unfolding kindsLength below
-  long = omega (arith, ready .whole, ready .block)
+  own-is : c .before .before .kind .result ≡ own S₀
+  own-is = c .before .before .kind .ensures
 
-  readable : (i j a m : ℕ) → m ≤ sideSize → weight (take m (drop a t)) (r i) (r j) ≤ cap → Readable (take m (drop a t)) (x i) (x j)
-  unfolding below
-  readable i j a m h l = record { few = omega (arith, length-take m (drop a t)); light = l }
+  size-is : c .before .size .result ≡ size (own S₀ .degree)
+  size-is = c .before .size .ensures ∙ ap (λ (k : Kind). size (k .degree)) own-is
 
-  read-own : Readable own (x 0) (x 3)
-  read-own = readable 0 3 (limitsSize + blockSize * b + pitchSize * n) pitchSize (omega arith) (omega (arith, weights))
+  step-is : c .before .size .result * n ≡ size (own S₀ .degree) * n
+  step-is = ap (λ m. m * n) size-is
 
-  read-xi : Readable xi (x 1) (x 2)
-  read-xi = readable 1 2 (limitsSize + blockSize * b + xiStart) sideSize (omega arith) (omega (arith, weights))
+  own-at : c .start .result + c .before .size .result * n ≡ ownAt S₀ (blockStart S₀ b) n
+  own-at = omega (arith, c .start .ensures, step-is)
 
-  read-zeta : Readable zeta (x 1) (x 4)
-  read-zeta = readable 1 4 (limitsSize + blockSize * b + zetaStart) sideSize (omega arith) (omega (arith, weights))
+  shared-at : c .start .result + 2 * c .before .size .result ≡ sharedAt S₀ (blockStart S₀ b)
+  shared-at = omega (arith, c .start .ensures, size-is)
 
-  bound : (l : List ℤ) (i j : ℕ) → natAbs (value l (x i) (x j)) ≤ weight l (r i) (r j)
-  bound l i j = value-within l (x i) (x j) (r i) (r j) (N.le-max-right 1 (natAbs (x i))) (N.le-max-right 1 (natAbs (x j)))
+  own-within : ownAt S₀ (blockStart S₀ b) n + size (own S₀ .degree) ≤ length t₀
+  own-within = own-long S₀ (split (entry .args .model)) t₀ b n (entry .args .state .now) (entry .pre)
 
-  abbrev sides : ℤ
-  sides = value xi (x 1) (x 2) +ℤ value zeta (x 1) (x 4)
+  shared-within : sharedAt S₀ (blockStart S₀ b) ≤ length t₀
+  shared-within = omega (arith, shared-long S₀ (split (entry .args .model)) t₀ b n (entry .args .state .now) (entry .pre))
 
-  sides-fit : SFits w64 sides
-  sides-fit = natAbs-sfits sides (omega (arith, weights, natAbs-+ (value xi (x 1) (x 2)) (value zeta (x 1) (x 4)), bound xi 1 2, bound zeta 1 4))
+  small : length t₀ ≤ tableSize
+  small = omega (arith, few-table (entry .args .model), entry .pre .whole)
 
-  all-fit : SFits w64 (value own (x 0) (x 3) +ℤ sides)
-  all-fit =
-      natAbs-sfits (value own (x 0) (x 3) +ℤ sides)
-      (omega (arith, weights, natAbs-+ (value own (x 0) (x 3)) sides, natAbs-+ (value xi (x 1) (x 2)) (value zeta (x 1) (x 4)), bound own 0 3, bound xi 1 2, bound zeta 1 4))
+-- ---- the group that is read
+module _ (c : tie.After-kind2 Inv-loop μ-loop) where
+  abbrev loop : tie.At-loop Inv-loop μ-loop
+  loop = c .before .before .before
 
-  all-is : value own (x 0) (x 3) +ℤ sides ≡ total (coefficient cumulus t b (piece n)) x
-  unfolding total
-  all-is =
-      ap (λ z. value own (x 0) (x 3) +ℤ (value xi (x 1) (x 2) +ℤ z)) (sym (+ℤ-idr (value zeta (x 1) (x 4))))
-      ∙ ap (λ gs. total gs x) (sym (coefficient-parts t b n (ready .half)))
+  abbrev start : tie.Start Inv-loop μ-loop
+  start = loop .before .before .before .before .before
 
--- ---- what a call asks, and the three values as they come back
-module _ (a : tie.Start) where
-  abbrev table : List ℤ
-  table = a .args .table .now
+  abbrev S : Shape
+  S = shape (start .args .model)
 
-  asks : (p m u v : ℕ) → p + m ≤ length table → u < cumulus .variables → v < cumulus .variables → Readable (take m (drop p table)) (readings (a .args .state) u) (readings (a .args .state) v)
-      → GroupAt table p m u v (a .args .state)
-  asks p m u v h k l r = record { inside = h; first = k; second = l; ready = r }
+  abbrev t : List ℤ
+  t = start .args .table .now
 
-  inside : limitsSize + blockSize * a .args .block + blockSize ≤ length table
-  inside = long table (a .args .block) (a .args .piece) (a .args .state) (a .pre)
+  abbrev x : List ℤ
+  x = start .args .state .now
 
-module _ (c : tie.After-group-at3) where
-  abbrev start : tie.Start
-  start = c .before .before .before
+  abbrev k : Kind
+  k = c .kind2 .result
 
-  own-is : toZ w64 (ofZ w64 (c .before .before .group-at .result)) ≡ value (own (table start) (start .args .block) (start .args .piece) (start .args .state) (start .pre)) (readings (start .args .state) 0) (readings (start .args .state) 3)
-  own-is = let g = c .before .before .group-at in toZ-ofZ (sfits-of {z = g .result} (g .ok)) ∙ g .ensures
+  abbrev g : ℕ
+  g = loop .loop .group
 
-  xi-is : toZ w64 (ofZ w64 (c .before .group-at2 .result)) ≡ value (xi (table start) (start .args .block) (start .args .piece) (start .args .state) (start .pre)) (readings (start .args .state) 1) (readings (start .args .state) 2)
-  xi-is = let g = c .before .group-at2 in toZ-ofZ (sfits-of {z = g .result} (g .ok)) ∙ g .ensures
+  abbrev at : ℕ
+  at = loop .loop .at
 
-  zeta-is : toZ w64 (ofZ w64 (c .group-at3 .result)) ≡ value (zeta (table start) (start .args .block) (start .args .piece) (start .args .state) (start .pre)) (readings (start .args .state) 1) (readings (start .args .state) 4)
-  zeta-is = let g = c .group-at3 in toZ-ofZ (sfits-of {z = g .result} (g .ok)) ∙ g .ensures
+  abbrev sum : ℤ
+  sum = toZ w64 (loop .loop .sum)
 
-  sides-is : toZ w64 (ofZ w64 (toZ w64 (ofZ w64 (c .before .group-at2 .result)) +ℤ toZ w64 (ofZ w64 (c .group-at3 .result)))) ≡ sides (table start) (start .args .block) (start .args .piece) (start .args .state) (start .pre)
-  sides-is = op-back _+ℤ_ xi-is zeta-is (sides-fit (table start) (start .args .block) (start .args .piece) (start .args .state) (start .pre))
+  abbrev whole : ℤ
+  whole = total (coefficient S t (start .args .block) (piece (start .args .piece))) (readings x)
 
-mul-start : tie.Need-mul-start
-mul-start c = search needs
+  is-next : drop g (S .kinds) ≡ k ∷ drop (g + 1) (S .kinds)
+  is-next = at-kind S g k (omega (arith, c .before .if1 .taken, c .before .before .groups .ensures)) (c .kind2 .ensures)
 
-add-start : tie.Need-add-start
-add-start c = search needs
+  is-fine : FineKind (S .variables) k
+  is-fine = fine-at (S .variables) g (S .kinds) _ k (fine (start .args .model)) is-next
 
-mul-group-at : tie.Need-mul-group-at
-mul-group-at c = search needs
+  abbrev summed : Summed S t x whole g at sum
+  summed = loop .loop .inv .1
 
-add-group-at : tie.Need-add-group-at
-add-group-at c = search needs
+  ready : GroupAt t at (size (k .degree)) (k .u) (k .v) x
+  ready = next-ready S t x whole g at sum summed k is-next is-fine (start .pre .state)
 
-group-at-requires : tie.Need-group-at-requires
-group-at-requires c κs = asks c _ pitchSize 0 3 (omega (arith, inside c, c .pre .half)) (omega arith) (omega arith) (read-own (table c) (c .args .block) (c .args .piece) (c .args .state) (c .pre))
+  fits : SFits w64 (sum +ℤ valueOf (led k (drop at t)) (readings x))
+  fits = more-fits S t x whole g at sum summed k is-next
 
-add-group-at-2 : tie.Need-add-group-at-2
-add-group-at-2 c = search needs
+group-is : (c : tie.After-group-at2 Inv-loop μ-loop) → let d = c .before .before in toZ w64 (ofZ w64 (c .group-at2 .result)) ≡ valueOf (led (k d) (drop (at d) (t d))) (readings (x d))
+group-is c =
+    let d = c .before .before in
+    toZ-ofZ (sfits-of {z = c .group-at2 .result} (c .group-at2 .ok)) ∙ c .group-at2 .ensures
+    ∙ ap (λ n. value (take n (drop (at d) (t d))) (readings (x d) (k d .u)) (readings (x d) (k d .v))) (c .before .size2 .ensures)
 
-group-at-requires-2 : tie.Need-group-at-requires-2
-group-at-requires-2 c κs =
-    let a = c .before in
-    asks a _ sideSize 1 2 (omega (arith, inside a)) (omega arith) (omega arith) (read-xi (table a) (a .args .block) (a .args .piece) (a .args .state) (a .pre))
+kind-requires : tie.Need-kind-requires Inv-loop μ-loop
+kind-requires c κs = omega (arith, two-groups (c .args .model))
 
-add-group-at-3 : tie.Need-add-group-at-3
-add-group-at-3 c = search needs
+size-requires : tie.Need-size-requires Inv-loop μ-loop
+size-requires c κs = let a = c .before in subst (λ (k : Kind). FineKind (shape (a .args .model) .variables) k) (sym (c .kind .ensures)) (own-fine (a .args .model)) .few
 
-group-at-requires-3 : tie.Need-group-at-requires-3
-group-at-requires-3 c κs =
-    let a = c .before .before in
-    asks a _ sideSize 1 4 (omega (arith, inside a)) (omega arith) (omega arith) (read-zeta (table a) (a .args .block) (a .args .piece) (a .args .state) (a .pre))
+start-requires : tie.Need-start-requires Inv-loop μ-loop
+start-requires c κs = search needs
 
-add-result : tie.Need-add-result
-add-result c = let a = start c in op-bits _+ℤ_ (xi-is c) (zeta-is c) (sides-fit (table a) (a .args .block) (a .args .piece) (a .args .state) (a .pre))
+mul-at : tie.Need-mul-at Inv-loop μ-loop
+mul-at c = omega (arith, shared-at c, shared-within c, small c)
 
-add-result-2 : tie.Need-add-result-2
-add-result-2 c = let a = start c in op-bits _+ℤ_ (own-is c) (sides-is c) (all-fit (table a) (a .args .block) (a .args .piece) (a .args .state) (a .pre))
+add-at : tie.Need-add-at Inv-loop μ-loop
+add-at c = omega (arith, shared-at c, shared-within c, small c)
 
-returns : tie.Need-returns
+mul-group-at : tie.Need-mul-group-at Inv-loop μ-loop
+mul-group-at c = omega (arith, own-at c, own-within c, small c)
+
+add-group-at : tie.Need-add-group-at Inv-loop μ-loop
+add-group-at c = omega (arith, own-at c, own-within c, small c)
+
+group-at-requires : tie.Need-group-at-requires Inv-loop μ-loop
+group-at-requires c κs =
+    let a = entry c in
+    subst₃ (λ m n k. GroupAt (t₀ c) m n (k .u) (k .v) (a .args .state .now)) (sym (own-at c)) (sym (size-is c)) (sym (own-is c))
+    (own-ready (S₀ c) (split (a .args .model)) (t₀ c) (b c) (n c) (a .args .state .now) (a .pre) (own-fine (a .args .model)))
+
+loop-holds : tie.Need-loop-holds Inv-loop μ-loop
+loop-holds c =
+    let d = c .before in
+    let a = entry d in
+    let x = a .args .state .now in (
+      two-groups (a .args .model),
+      subst₂ (λ m z. Summed (S₀ d) (t₀ d) x (total (coefficient (S₀ d) (t₀ d) (b d) (piece (n d))) (readings x)) 2 m z) (sym (shared-at d))
+          (sym (toZ-ofZ (sfits-of {z = c .group-at .result} (c .group-at .ok)) ∙ c .group-at .ensures ∙ (λ i. value (take (size-is d i) (drop (own-at d i) (t₀ d))) (readings x (own-is d i .u)) (readings x (own-is d i .v)))))
+          (summed-own (S₀ d) (split (a .args .model)) (t₀ d) (b d) (n d) x (a .pre)),
+    )
+
+groups-requires : tie.Need-groups-requires Inv-loop μ-loop
+groups-requires c κs = search needs
+
+kind-requires-2 : tie.Need-kind-requires-2 Inv-loop μ-loop
+kind-requires-2 c κs = search needs
+
+size-requires-2 : tie.Need-size-requires-2 Inv-loop μ-loop
+size-requires-2 c κs = is-fine c .few
+
+group-at-requires-2 : tie.Need-group-at-requires-2 Inv-loop μ-loop
+group-at-requires-2 c κs = let d = c .before in subst (λ n. GroupAt (t d) (at d) n (k d .u) (k d .v) (x d)) (sym (c .size2 .ensures)) (ready d)
+
+add-sum : tie.Need-add-sum Inv-loop μ-loop
+add-sum c = let d = c .before .before in subst (λ z. SFits w64 (sum d +ℤ z)) (sym (group-is c)) (fits d)
+
+add-at-2 : tie.Need-add-at-2 Inv-loop μ-loop
+add-at-2 c = let d = c .before .before in omega (arith, c .before .size2 .ensures, ready d .inside, few-table (start d .args .model), start d .pre .whole)
+
+add-group : tie.Need-add-group Inv-loop μ-loop
+add-group c = search needs
+
+loop-less : tie.Need-loop-less Inv-loop μ-loop
+loop-less c = search needs
+
+loop-again : tie.Need-loop-again Inv-loop μ-loop
+loop-again c =
+    let d = c .before .before in (
+      omega (arith, d .before .if1 .taken, d .before .before .groups .ensures),
+      subst₂ (Summed (S d) (t d) (x d) (whole d) (g d + 1)) (ap (λ m. at d + m) (sym (c .before .size2 .ensures))) (sym (op-back _+ℤ_ (refl {a = sum d}) (group-is c) (fits d)))
+          (summed-more (S d) (t d) (x d) (whole d) (g d) (at d) (sum d) (summed d) (k d) (is-next d)),
+    )
+
+returns : tie.Need-returns Inv-loop μ-loop
 returns c =
-    let a = start c in
-    op-back _+ℤ_ (own-is c) (sides-is c) (all-fit (table a) (a .args .block) (a .args .piece) (a .args .state) (a .pre))
-    ∙ all-is (table a) (a .args .block) (a .args .piece) (a .args .state) (a .pre)
+    let l = c .before .before in
+    let a = l .before .before .before .before .before in
+    summed-all (shape (a .args .model)) (a .args .table .now) (a .args .state .now) _ (l .loop .group) (l .loop .at) _ (l .loop .inv .1) (omega (arith, c .if1 .left, c .before .groups .ensures))
 
 pub coefficient-at-spec : {M : Type 1} → statement M
 coefficient-at-spec =
     tie.close
     (tie.spec
-    mul-start
-    add-start
+    Inv-loop
+    μ-loop
+    kind-requires
+    size-requires
+    start-requires
+    mul-at
+    add-at
     mul-group-at
     add-group-at
     group-at-requires
-    add-group-at-2
+    loop-holds
+    groups-requires
+    kind-requires-2
+    size-requires-2
     group-at-requires-2
-    add-group-at-3
-    group-at-requires-3
-    add-result
-    add-result-2
+    add-sum
+    add-at-2
+    add-group
+    loop-less
+    loop-again
     returns)

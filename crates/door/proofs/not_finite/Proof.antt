@@ -41,7 +41,7 @@ returns c =
     let l = c .before .before .before .before .loop in
     let s = c .before .before .before .before .before .args .t1 in
     let e : stepsOf s (l .i) ≡ NotFinite = c .enum-told .given .1 in
-    sym (first-at (refusedNotFinite (stepsOf s)) (l .i) (l .inv .1) (ap isNotFinite e) (cumulus .variables) (c .before .before .before .loop-test .taken) ∙ ap (numberOf (l .i)) e)
+    sym (first-at (refusedNotFinite (stepsOf s)) (l .i) (l .inv .1) (ap isNotFinite e) (cumulus .variables) (c .before .before .before .loop-test .taken) ∙ ap (numberOf cumulus (l .i)) e)
 
 add-i : tie.Need-add-i Inv-loop μ-loop
 add-i c = search needs

@@ -48,11 +48,11 @@ returns c =
     let l = d .before .before .before .before .loop in
     let s = d .before .before .before .before .before .args .t1 in
     let e : stepsOf s (l .i) ≡ Outside (d .step2 .given .0 .0) = d .step2 .given .1 in
-    let n : first (outsides (cumulus .variables) (stepsOf s)) ≡ outside (l .i) =
-    first-at (refusedOutside (stepsOf s)) (l .i) (l .inv .1) (ap isOutside e) (cumulus .variables) (d .before .before .before .loop-test .taken) ∙ ap (numberOf (l .i)) e
+    let n : first (outsides cumulus (cumulus .variables) (stepsOf s)) ≡ outside cumulus (l .i) =
+    first-at (refusedOutside (stepsOf s)) (l .i) (l .inv .1) (ap isOutside e) (cumulus .variables) (d .before .before .before .loop-test .taken) ∙ ap (numberOf cumulus (l .i)) e
     in
     c .refused .ensures
-    ∙ ap (refusedWith (outside (l .i))) (sym (back-given (stepsOf s) (l .i) (d .before .before .before .loop-test .taken) ∙ ap handedBack e))
+    ∙ ap (refusedWith (outside cumulus (l .i))) (sym (back-given (stepsOf s) (l .i) (d .before .before .before .loop-test .taken) ∙ ap handedBack e))
     ∙ ap (λ k. refusedWith k (readingFor cumulus (stepsOf s) k)) (sym n)
 
 add-i : tie.Need-add-i Inv-loop μ-loop
@@ -77,7 +77,7 @@ unfolding ofBits
 returns-2 c =
     let l = c .before .before .loop in
     let s = c .before .before .before .args .t1 in
-    let n : first (outsides (cumulus .variables) (stepsOf s)) ≡ 0 = first-none (refusedOutside (stepsOf s)) (cumulus .variables) (λ j h. l .inv .1 j (omega (arith, l .inv .0, c .before .loop-test .left))) in
+    let n : first (outsides cumulus (cumulus .variables) (stepsOf s)) ≡ 0 = first-none (refusedOutside (stepsOf s)) (cumulus .variables) (λ j h. l .inv .1 j (omega (arith, l .inv .0, c .before .loop-test .left))) in
     c .refused2 .ensures ∙ ap (λ k. refusedWith k (readingFor cumulus (stepsOf s) k)) (sym n)
 
 pub outside-spec : {M : Type 1} → statement M

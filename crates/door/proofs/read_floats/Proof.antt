@@ -1,5 +1,5 @@
 -- `door::read_floats` meets its contract: each way out is the first refusal that holds, and the last gives the six floats. Assumes nothing.
-use mathlib.Core.Path.{_≡_, sym, _∙_, ap, ap₂, subst, fun-ext}
+use mathlib.Core.Path.{_≡_, refl, sym, _∙_, ap, ap₂, subst, fun-ext}
 use mathlib.Core.Bool.{Bool, true, false, cond, _&&_}
 use mathlib.Core.List.{List, _++_}
 use Prim.Native.Nat.{ℕ, _<_}
@@ -13,24 +13,24 @@ use mir.Facts.{toZ-ofZ}
 use Rattle.polynomials.specs.Sum.{listed}
 use Rattle.polynomials.specs.Groups.{total}
 use Rattle.polynomials.proofs.Listed.{length-listed, getD-listed, listed-ext}
+use Rattle.layout.specs.declared.Model.the-variants.{Cumulus}
 use Rattle.layout.specs.Shape.{cumulus, tableLength}
 use Rattle.layout.specs.Limits.{lowest, highest, cut, good, allInRange}
 use Rattle.layout.specs.Blocks.{low, high, piece, coefficient}
 use Rattle.layout.specs.Sound.{light}
 use Rattle.layout.specs.Refusals.{first, _when_}
 use Rattle.layout.specs.Reading.{readings, pieceAt}
-use Rattle.layout.proofs.LimitLaws.{limits-take, lowest-same, highest-same, good-facts}
 use Rattle.layout.specs.Accepted.{ReadAccepted}
-use Rattle.blocks.specs.Ready.{Valued}
-use Rattle.tables.proofs.Taken.{cut-taken, range-taken}
+use Rattle.layout.proofs.Fine.{well-formed}
+use Rattle.layout.proofs.LimitLaws.{limits-take, lowest-same, highest-same, allInRange-same, good-facts, counted-half, counted-piece}
+use Rattle.tables.proofs.Taken.{cut-taken}
 use Rattle.tables.proofs.Steps.{first-apart, known-sound, valued, positive}
 use Rattle.rounding.specs.Reading.{stepOf}
 use Rattle.rounding.specs.Answer.{floatOf}
 use Rattle.rounding.specs.declared.Step.{Step}
 use Rattle.rounding.specs.declared.Step.the-variants.{Whole}
 use Rattle.door.specs.Steps.{positiveZero, numberOf, wholeIn, isNotFinite, isOutside, stepsOf}
-use Rattle.door.specs.Door.{floats, roundedAll, stepAt, notFinites, outsides, doorNumber, readingFor, answerWith, doorAnswer}
-use Rattle.door.specs.declared.Answer.{Answer}
+use Rattle.door.specs.Door.{floats, roundedAll, stepAt, notFinites, outsides, doorNumber, readingFor, answerWith}
 use Rattle.door.proofs.Numbers.{door-refused, door-sound, table-small, not-finite-number, past-finite, back-below, back-above, back-agreed, refused-answer, done-answer}
 use Rattle.door.proofs.Wholes.{step-whole, rounded-inside, total-agreed}
 use Rattle.door.proofs.read_floats.Statement.{statement}
@@ -48,12 +48,12 @@ module _ (c : tie.Else1) where
   x = floats (start .args .readings)
 
   abbrev s : ℕ → Step
-  s = stepAt t x
+  s = stepAt cumulus t x
 
   known : (length t ≡ tableLength cumulus) × ((good cumulus t ≡ true) × (light cumulus t ≡ true))
-  known = known-sound t (sym (c .before .refusal-of .ensures) ∙ c .if1 .left)
+  known = known-sound cumulus t (sym (c .before .refusal-of .ensures) ∙ c .if1 .left)
 
-  number-is : doorNumber cumulus t x ≡ first (notFinites (cumulus .variables) s ++ outsides (cumulus .variables) s)
+  number-is : doorNumber cumulus t x ≡ first (notFinites cumulus (cumulus .variables) s ++ outsides cumulus (cumulus .variables) s)
   number-is = door-sound t x (known .0) (known .1)
 
 -- ---- its steps
@@ -61,22 +61,22 @@ module _ (c : tie.After-steps-of) where
   abbrev there : tie.Else1
   there = c .before .before
 
-  same-step : (i : ℕ) → i < cumulus .variables → stepAt (c .before .of .result .numbers) (x there) i ≡ s there i
+  same-step : (i : ℕ) → i < cumulus .variables → stepAt cumulus (c .before .of .result .numbers) (x there) i ≡ s there i
   same-step i h =
-      ap (λ l. stepAt l (x there) i) (c .before .of .ensures)
+      ap (λ l. stepAt cumulus l (x there) i) (c .before .of .ensures .1)
       ∙ ap₂ (stepOf (x there i)) (lowest-same (limits-take cumulus (t there)) i h) (highest-same (limits-take cumulus (t there)) i h)
 
   step-is : (i : ℕ) → i < cumulus .variables → stepsOf (c .steps-of .result) i ≡ s there i
   step-is i h =
-      ap (λ l. stepsOf l i) (c .steps-of .ensures) ∙ getD-listed (cumulus .variables) (stepAt (c .before .of .result .numbers) (x there)) i (Whole (pos 0)) h ∙ same-step i h
+      ap (λ l. stepsOf l i) (c .steps-of .ensures) ∙ getD-listed (cumulus .variables) (stepAt cumulus (c .before .of .result .numbers) (x there)) i (Whole (pos 0)) h ∙ same-step i h
 
-  not-finites-are : notFinites (cumulus .variables) (stepsOf (c .steps-of .result)) ≡ notFinites (cumulus .variables) (s there)
-  not-finites-are = listed-ext (0 when true) (cumulus .variables) _ _ (λ i h. ap (λ r. numberOf i r when isNotFinite r) (step-is i h))
+  not-finites-are : notFinites cumulus (cumulus .variables) (stepsOf (c .steps-of .result)) ≡ notFinites cumulus (cumulus .variables) (s there)
+  not-finites-are = listed-ext (0 when true) (cumulus .variables) _ _ (λ i h. ap (λ r. numberOf cumulus i r when isNotFinite r) (step-is i h))
 
-  outsides-are : outsides (cumulus .variables) (stepsOf (c .steps-of .result)) ≡ outsides (cumulus .variables) (s there)
-  outsides-are = listed-ext (0 when true) (cumulus .variables) _ _ (λ i h. ap (λ r. numberOf i r when isOutside r) (step-is i h))
+  outsides-are : outsides cumulus (cumulus .variables) (stepsOf (c .steps-of .result)) ≡ outsides cumulus (cumulus .variables) (s there)
+  outsides-are = listed-ext (0 when true) (cumulus .variables) _ _ (λ i h. ap (λ r. numberOf cumulus i r when isOutside r) (step-is i h))
 
-unread-is : (c : tie.After-not-finite) → c .not-finite .result ≡ first (notFinites (cumulus .variables) (s (there (c .before))))
+unread-is : (c : tie.After-not-finite) → c .not-finite .result ≡ first (notFinites cumulus (cumulus .variables) (s (there (c .before))))
 unread-is c = c .not-finite .ensures ∙ ap first (not-finites-are (c .before))
 
 -- ---- five finite readings
@@ -84,10 +84,10 @@ module _ (c : tie.After-outside) where
   abbrev steps : tie.After-steps-of
   steps = c .before .before .before
 
-  finite : first (notFinites (cumulus .variables) (s (there steps))) ≡ 0
+  finite : first (notFinites cumulus (cumulus .variables) (s (there steps))) ≡ 0
   finite = sym (unread-is (c .before .before)) ∙ c .before .if2 .left
 
-  outside-is : first (outsides (cumulus .variables) (stepsOf (steps .steps-of .result))) ≡ doorNumber cumulus (t (there steps)) (x (there steps))
+  outside-is : first (outsides cumulus (cumulus .variables) (stepsOf (steps .steps-of .result))) ≡ doorNumber cumulus (t (there steps)) (x (there steps))
   outside-is = ap first (outsides-are steps) ∙ sym (number-is (there steps) ∙ past-finite (s (there steps)) (cumulus .variables) finite)
 
   past-number : c .outside .result .number ≡ doorNumber cumulus (t (there steps)) (x (there steps))
@@ -107,7 +107,7 @@ module _ (c : tie.After-wholes-in) where
   nothing : doorNumber cumulus (t d) (x d) ≡ 0
   nothing = sym (past-number past) ∙ c .before .if3 .left
 
-  within : first (outsides (cumulus .variables) (s d)) ≡ 0
+  within : first (outsides cumulus (cumulus .variables) (s d)) ≡ 0
   within = sym (number-is d ∙ past-finite (s d) (cumulus .variables) (finite past)) ∙ nothing
 
   state-is : (i : ℕ) → i < cumulus .variables → w i ≡ roundedAll (x d) i
@@ -121,33 +121,28 @@ module _ (c : tie.After-wholes-in) where
     output = length-listed (cumulus .blocks) (λ b. pos 0);
     limits = known d .1 .0;
     weights = known d .1 .1;
-    readings = λ i h. ap (λ z. leZ (lowest (t d) i) z && leZ z (highest (t d) i)) (state-is i h) ∙ rounded-inside (t d) (x d) (finite past) within i h;
+    readings = λ i h. ap (λ z. leZ (lowest cumulus (t d) i) z && leZ z (highest cumulus (t d) i)) (state-is i h) ∙ rounded-inside (t d) (x d) (finite past) within i h;
   }
 
-module _ (c : tie.After-in-low-piece) where
+-- ---- the piece
+module _ (c : tie.After-piece) where
   abbrev all : tie.After-wholes-in
   all = c .before .before
 
-  low-is : c .in-low-piece .result ≡ leZ (w all 0) (cut (t (d all)))
-  low-is =
-      c .in-low-piece .ensures
-      ∙ ap₂ leZ (toZ-ofZ (sfits-of {z = w all 0} (c .before .in-low-piece-arg .given))) (ap cut (steps (past all) .before .of .ensures) ∙ cut-taken (t (d all)))
+  abbrev n : ℕ
+  n = c .piece .result
 
-  piece-is : (b : Bool) → c .in-low-piece .result ≡ b → pieceAt (t (d all)) (w all) ≡ cond b low high
-  piece-is b e = ap (λ z. cond z low high) (sym low-is ∙ e)
+  piece-number : n ≡ cond (leZ (w all 0) (cut cumulus (t (d all)))) 0 1
+  piece-number =
+      let o = steps (past all) .before .of in
+      c .piece .ensures
+      ∙ ap (λ b. cond b 0 1) (ap₂ leZ (toZ-ofZ (sfits-of {z = w all 0} (c .before .piece-arg .given))) (cut-taken Cumulus (t (d all)) (o .result) (o .ensures)))
 
-  all-valued : (n : ℕ) → n < 2 → pieceAt (t (d all)) (w all) ≡ piece n → (b : ℕ) → b < cumulus .blocks → Valued (t (d all)) b n (all .wholes-in .result)
-  all-valued n h e = valued (t (d all)) (all .wholes-in .result) (listed (cumulus .blocks) (λ b. pos 0)) n h e (readable all)
+  half : n < 2
+  half = counted-half (leZ (w all 0) (cut cumulus (t (d all)))) piece-number
 
-  answers : (n : ℕ) → pieceAt (t (d all)) (w all) ≡ piece n → (r : Answer)
-      → r ≡ answerWith 0 positiveZero (λ b. floatOf (total (coefficient cumulus (t (d all)) b (piece n)) (w all)))
-      → r ≡ doorAnswer (t (d all)) (x (d all))
-  answers n e r h =
-      let same : piece n ≡ pieceAt (t (d all)) (roundedAll (x (d all))) = sym e ∙ ap (λ z. cond (leZ z (cut (t (d all)))) low high) (state-is all 0 (omega arith)) in
-      h
-      ∙ ap (answerWith 0 positiveZero)
-      (fun-ext (λ b. ap floatOf (total-agreed (w all) (roundedAll (x (d all))) (state-is all) (t (d all)) b (piece n) ∙ ap (λ p. total (coefficient cumulus (t (d all)) b p) (roundedAll (x (d all)))) same)))
-      ∙ done-answer (t (d all)) (x (d all)) (nothing all)
+  piece-is : pieceAt cumulus (t (d all)) (w all) ≡ piece n
+  piece-is = counted-piece (leZ (w all 0) (cut cumulus (t (d all)))) piece-number
 
 refusal-of-requires : tie.Need-refusal-of-requires
 refusal-of-requires c κs = tt
@@ -163,7 +158,7 @@ returns c =
     let n = r .refusal-of .result in
     c .refused .ensures
     ∙ refused-answer (a .table .now) (floats (a .readings)) n positiveZero (door-refused (a .table .now) (floats (a .readings)) n (r .refusal-of .ensures) (c .before .if1 .taken)) (positive (c .before .if1 .taken))
-    (back-below (stepAt (a .table .now) (floats (a .readings))) n (subst (λ k. k < 11) (sym (r .refusal-of .ensures)) (table-small (a .table .now))))
+    (back-below (stepAt cumulus (a .table .now) (floats (a .readings))) n (subst (λ k. k < 11) (sym (r .refusal-of .ensures)) (table-small (a .table .now))))
 
 of-requires : tie.Need-of-requires
 of-requires c κs = omega (arith, known c .0)
@@ -171,7 +166,7 @@ of-requires c κs = omega (arith, known c .0)
 steps-of-requires : tie.Need-steps-of-requires
 steps-of-requires c κs =
     let d = c .before in
-    ap (allInRange cumulus) (c .of .ensures) ∙ range-taken (t d) ∙ good-facts cumulus (t d) (known d .1 .0) .range
+    (c .of .ensures .0, ap (allInRange cumulus) (c .of .ensures .1) ∙ allInRange-same (limits-take cumulus (t d)) ∙ good-facts cumulus (t d) (known d .1 .0) .range)
 
 not-finite-requires : tie.Need-not-finite-requires
 not-finite-requires c κs = tt
@@ -184,8 +179,8 @@ unfolding ofBits
 returns-2 c =
     let f = c .before .before in
     let d = there (f .before) in
-    let apart : first (notFinites (cumulus .variables) (s d)) ≡ 0 → ⊥ = λ z. c .before .if2 .taken (unread-is f ∙ z) in
-    let number : doorNumber cumulus (t d) (x d) ≡ f .not-finite .result = number-is d ∙ first-apart (notFinites (cumulus .variables) (s d)) (outsides (cumulus .variables) (s d)) apart ∙ sym (unread-is f) in
+    let apart : first (notFinites cumulus (cumulus .variables) (s d)) ≡ 0 → ⊥ = λ z. c .before .if2 .taken (unread-is f ∙ z) in
+    let number : doorNumber cumulus (t d) (x d) ≡ f .not-finite .result = number-is d ∙ first-apart (notFinites cumulus (cumulus .variables) (s d)) (outsides cumulus (cumulus .variables) (s d)) apart ∙ sym (unread-is f) in
     c .refused2 .ensures
     ∙ refused-answer (t d) (x d) (f .not-finite .result) positiveZero number (positive (c .before .if2 .taken))
     (back-above (s d) (f .not-finite .result) (omega (arith, unread-is f, not-finite-number (s d) (cumulus .variables) apart)))
@@ -197,7 +192,7 @@ returns-3 : tie.Need-returns-3
 returns-3 c =
     let o = c .before .before in
     let d = there (steps o) in
-    let n = first (outsides (cumulus .variables) (stepsOf (steps o .steps-of .result))) in
+    let n = first (outsides cumulus (cumulus .variables) (stepsOf (steps o .steps-of .result))) in
     let apart : n ≡ 0 → ⊥ = λ z. c .if3 .taken (ap (λ r. r .number) (o .outside .ensures) ∙ z) in
     o .outside .ensures
     ∙ refused-answer (t d) (x d) n (readingFor cumulus (stepsOf (steps o .steps-of .result)) n) (sym (outside-is o)) (positive apart)
@@ -206,23 +201,29 @@ returns-3 c =
 wholes-in-requires : tie.Need-wholes-in-requires
 wholes-in-requires c κs = tt
 
-array-copy-out-in-low-piece : tie.Need-array-copy-out-in-low-piece
-array-copy-out-in-low-piece c = search needs
+array-copy-out-piece : tie.Need-array-copy-out-piece
+array-copy-out-piece c = search needs
 
-in-low-piece-requires : tie.Need-in-low-piece-requires
-in-low-piece-requires c κs = tt
+piece-requires : tie.Need-piece-requires
+piece-requires c κs = tt
 
 answered-requires : tie.Need-answered-requires
-answered-requires c κs = all-valued (c .before) 0 (omega arith) (piece-is (c .before) true (c .if4 .taken))
+answered-requires c κs =
+    let a = all c in
+    let state = a .wholes-in .result in
+    valued cumulus (t (d a)) (well-formed Cumulus) state (listed (cumulus .blocks) (λ b. pos 0)) (n c) (half c) (piece-is c)
+    (ap length (a .wholes-in .ensures) ∙ length-listed (cumulus .variables) _) (readable a)
 
 returns-4 : tie.Need-returns-4
-returns-4 c = answers (c .before .before) 0 (piece-is (c .before .before) true (c .before .if4 .taken)) _ (c .answered .ensures)
-
-answered-requires-2 : tie.Need-answered-requires-2
-answered-requires-2 c κs = all-valued (c .before) 1 (omega arith) (piece-is (c .before) false (c .if4 .left))
-
-returns-5 : tie.Need-returns-5
-returns-5 c = answers (c .before .before) 1 (piece-is (c .before .before) false (c .before .if4 .left)) _ (c .answered2 .ensures)
+returns-4 c =
+    let p = c .before in
+    let a = all p in
+    let at = roundedAll (x (d a)) in
+    let same : piece (n p) ≡ pieceAt cumulus (t (d a)) at = sym (piece-is p) ∙ ap (λ z. cond (leZ z (cut cumulus (t (d a)))) low high) (state-is a 0 (omega arith)) in
+    c .answered .ensures
+    ∙ ap (answerWith 0 positiveZero)
+    (fun-ext (λ b. ap floatOf (total-agreed (w a) at (state-is a) (t (d a)) b (piece (n p)) ∙ ap (λ q. total (coefficient cumulus (t (d a)) b q) at) same)))
+    ∙ done-answer (t (d a)) (x (d a)) (nothing a)
 
 pub read-floats-spec : {M : Type 1} → statement M
 read-floats-spec =
@@ -239,9 +240,7 @@ read-floats-spec =
     outside-requires
     returns-3
     wholes-in-requires
-    array-copy-out-in-low-piece
-    in-low-piece-requires
+    array-copy-out-piece
+    piece-requires
     answered-requires
-    returns-4
-    answered-requires-2
-    returns-5)
+    returns-4)

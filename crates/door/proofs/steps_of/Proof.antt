@@ -1,6 +1,6 @@
 -- `door::steps_of` meets its contract. The loop's invariant: the places before `i` hold the steps of the readings.
 -- Assumes nothing.
-use mathlib.Core.Path.{ap₂, _≡_, refl, _∙_}
+use mathlib.Core.Path.{_≡_, refl, _∙_, ap, ap₂}
 use Prim.Native.Nat.{_-_, _≤_}
 use native.Mathlib.Omega.{arith}
 use borrow.Author.Needs.{needs}
@@ -10,27 +10,30 @@ use mir.Syntax.{w64}
 use Rattle.polynomials.specs.Sum.{listed}
 use Rattle.polynomials.proofs.Listed.{listed-more, listed-all}
 use Rattle.layout.specs.Limits.{lowest, highest}
-use Rattle.layout.specs.Shape.{cumulus, lowestPlace, highestPlace}
+use Rattle.layout.specs.Shape.{cumulus, shape, lowestPlace, highestPlace}
 use Rattle.limits.proofs.Held.{held}
-use Rattle.layout.proofs.LimitLaws.{range-within}
-use Rattle.limits.proofs.Among.{lowest-among, highest-among}
+use Rattle.layout.proofs.LimitLaws.{lowest-among, highest-among, range-within}
 use Rattle.rounding.specs.Reading.{stepOf}
 use Rattle.door.specs.Door.{floats, stepAt}
 use Rattle.door.proofs.steps_of.Statement.{statement}
 use Rattle.door.proofs.steps_of.Tie as tie
 
 abbrev Inv-loop : tie.InvT-loop
-Inv-loop limits readings steps₀ i₀ steps i = (i ≤ cumulus .variables) × (length steps ≡ cumulus .variables) × (take i steps ≡ listed i (stepAt (limits .numbers) (floats readings)))
+Inv-loop limits readings steps₀ i₀ steps i = (i ≤ cumulus .variables) × (length steps ≡ cumulus .variables) × (take i steps ≡ listed i (stepAt cumulus (limits .numbers) (floats readings)))
 
 abbrev μ-loop : tie.MeasureT-loop
 μ-loop limits readings steps₀ i₀ steps i = cumulus .variables - i
 
 module _ (c : tie.After-highest Inv-loop μ-loop) where
-  lowest-is : toZ w64 (ofZ w64 (c .before .lowest .result)) ≡ lowest (c .before .before .before .before .args .limits .numbers) (c .before .before .before .loop .i)
-  lowest-is = held (c .before .lowest .result) (c .before .lowest .ok) (c .before .lowest .ensures)
+  lowest-is : toZ w64 (ofZ w64 (c .before .lowest .result)) ≡ lowest cumulus (c .before .before .before .before .args .limits .numbers) (c .before .before .before .loop .i)
+  lowest-is =
+      let a = c .before .before .before .before in
+      held (c .before .lowest .result) (c .before .lowest .ok) (c .before .lowest .ensures ∙ ap (λ m. lowest (shape m) (a .args .limits .numbers) (c .before .before .before .loop .i)) (a .pre .0))
 
-  highest-is : toZ w64 (ofZ w64 (c .highest .result)) ≡ highest (c .before .before .before .before .args .limits .numbers) (c .before .before .before .loop .i)
-  highest-is = held (c .highest .result) (c .highest .ok) (c .highest .ensures)
+  highest-is : toZ w64 (ofZ w64 (c .highest .result)) ≡ highest cumulus (c .before .before .before .before .args .limits .numbers) (c .before .before .before .loop .i)
+  highest-is =
+      let a = c .before .before .before .before in
+      held (c .highest .result) (c .highest .ok) (c .highest .ensures ∙ ap (λ m. highest (shape m) (a .args .limits .numbers) (c .before .before .before .loop .i)) (a .pre .0))
 
 loop-holds : tie.Need-loop-holds Inv-loop μ-loop
 unfolding listed
@@ -53,9 +56,9 @@ step-of-requires c κs =
     let d = c .before .before in
     let t = d .before .before .args .limits .numbers in
     let i = d .before .loop .i in
-    let range = d .before .before .pre in (
-      rw (lowest-is c) (range-within cumulus t range (lowestPlace i) (lowest-among cumulus i (d .loop-test .taken))),
-      rw (highest-is c) (range-within cumulus t range (highestPlace i) (highest-among cumulus i (d .loop-test .taken))),
+    let range = d .before .before .pre .1 in (
+      rw (lowest-is c) (range-within cumulus t range (lowestPlace cumulus i) (lowest-among cumulus i (d .loop-test .taken))),
+      rw (highest-is c) (range-within cumulus t range (highestPlace cumulus i) (highest-among cumulus i (d .loop-test .taken))),
     )
 
 mul-steps : tie.Need-mul-steps Inv-loop μ-loop
@@ -74,7 +77,7 @@ loop-again : tie.Need-loop-again Inv-loop μ-loop
 loop-again c =
     let l = c .before .before .before .before .loop in
     let a = c .before .before .before .before .before .args in
-    let f = stepAt (a .limits .numbers) (floats (a .t2)) in (
+    let f = stepAt cumulus (a .limits .numbers) (floats (a .t2)) in (
       omega (arith, c .before .before .before .loop-test .taken),
       length-set (l .steps) (l .i) _ ∙ l .inv .1,
       listed-more (l .steps) f (l .i) _ (omega (arith, l .inv .1, c .before .before .before .loop-test .taken)) (l .inv .2)
@@ -85,7 +88,7 @@ returns : tie.Need-returns Inv-loop μ-loop
 returns c =
     let l = c .before .loop in
     let a = c .before .before .args in
-    listed-all (l .steps) (stepAt (a .limits .numbers) (floats (a .t2))) (l .i) (cumulus .variables) (l .inv .1) (omega (arith, l .inv .0, c .loop-test .left)) (l .inv .2)
+    listed-all (l .steps) (stepAt cumulus (a .limits .numbers) (floats (a .t2))) (l .i) (cumulus .variables) (l .inv .1) (omega (arith, l .inv .0, c .loop-test .left)) (l .inv .2)
 
 pub steps-of-spec : {M : Type 1} → statement M
 steps-of-spec =

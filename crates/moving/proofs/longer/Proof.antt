@@ -5,22 +5,21 @@ use native.Mathlib.Omega.{arith}
 use borrow.Author.Needs.{needs}
 use lib.ListN.{length, take, length-set}
 use Rattle.polynomials.specs.Sum.{listed}
-use Rattle.polynomials.specs.Groups.{longer as longerBy}
 use Rattle.polynomials.proofs.Listed.{listed-more, listed-all}
-use Rattle.layout.specs.Shape.{cumulus}
-use Rattle.layout.specs.Reaches.{reachCount, reachAt, reachesOf}
+use Rattle.layout.specs.Numbers.{reachesRoom}
+use Rattle.moving.specs.Ready.{longerAt}
 use Rattle.moving.proofs.longer.Statement.{statement}
 use Rattle.moving.proofs.longer.Tie as tie
 
 abbrev Inv-loop : tie.InvT-loop
 Inv-loop reaches variable more longer₀ k₀ longer k =
-    (k ≤ reachCount cumulus) × (length longer ≡ reachCount cumulus) × (take k longer ≡ listed k (reachAt (λ p. longerBy variable more (reachesOf reaches p))))
+    (k ≤ reachesRoom) × (length longer ≡ reachesRoom) × (take k longer ≡ listed k (longerAt reaches variable more))
 
 abbrev μ-loop : tie.MeasureT-loop
-μ-loop reaches variable more longer₀ k₀ longer k = reachCount cumulus - k
+μ-loop reaches variable more longer₀ k₀ longer k = reachesRoom - k
 
 abbrev target : (c : tie.Start Inv-loop μ-loop) → ℕ → ℕ
-target c = reachAt (λ p. longerBy (c .args .variable) (c .args .more) (reachesOf (c .args .reaches) p))
+target c = longerAt (c .args .reaches) (c .args .variable) (c .args .more)
 
 loop-holds : tie.Need-loop-holds Inv-loop μ-loop
 unfolding listed
@@ -52,7 +51,7 @@ loop-again c =
 returns : tie.Need-returns Inv-loop μ-loop
 returns c =
     let l = c .before .loop in
-    listed-all (l .longer) (target (c .before .before)) (l .k) (reachCount cumulus) (l .inv .1) (omega (arith, l .inv .0, c .loop-test .left)) (l .inv .2)
+    listed-all (l .longer) (target (c .before .before)) (l .k) reachesRoom (l .inv .1) (omega (arith, l .inv .0, c .loop-test .left)) (l .inv .2)
 
 pub longer-spec : {M : Type 1} → statement M
 longer-spec =

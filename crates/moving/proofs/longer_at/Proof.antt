@@ -1,31 +1,21 @@
--- `moving::longer_at` meets its contract, by the place. Assumes nothing.
-use mathlib.Core.Path.{_≡_, refl, sym, _∙_, ap}
+-- `moving::longer_at` meets its contract, by whose the reach is. Assumes nothing.
+use mathlib.Core.Path.{_≡_, sym, _∙_, ap}
 use mathlib.Core.Bool.{Bool, cond}
-use mathlib.Core.List.{List}
-use Prim.Native.Nat.{ℕ, zero, suc, _+_, _-_}
-use native.Mathlib.Omega.{arith}
+use Prim.Native.Nat.{ℕ, _+_, _-_}
 use borrow.Author.Needs.{needs}
 use borrow.Author.Tests.{eq-eqb, ne-eqb}
 use lib.Dec.{eqb}
 use lib.ListN.{getD}
-use Rattle.polynomials.specs.Groups.{longer}
-use Rattle.layout.specs.Reaches.{reachAt, reachesOf}
+use Rattle.moving.specs.Ready.{longerAt}
 use Rattle.moving.proofs.longer_at.Statement.{statement}
 use Rattle.moving.proofs.longer_at.Tie as tie
-
--- what is asked for, by the place
-by-place : (l : List ℕ) (k v n : ℕ) → cond (eqb (k - 1) v) (getD l k 0 + n) (getD l k 0) ≡ reachAt (λ p. longer v n (reachesOf l p)) k
-unfolding longer
-by-place l zero v n = refl
-by-place l (suc k) v n = let e : suc k - 1 ≡ k = omega arith in ap (λ j. cond (eqb j v) (getD l (suc k) 0 + n) (getD l (suc k) 0)) e
 
 module _ (a : tie.Start) where
   abbrev reach : ℕ
   reach = getD (a .args .t1) (a .args .place) 0
 
-  asked : (b : Bool) → eqb (a .args .place - 1) (a .args .variable) ≡ b
-      → cond b (reach + a .args .more) reach ≡ reachAt (λ p. longer (a .args .variable) (a .args .more) (reachesOf (a .args .t1) p)) (a .args .place)
-  asked b e = ap (λ (b : Bool). cond b (reach + a .args .more) reach) (sym e) ∙ by-place (a .args .t1) (a .args .place) (a .args .variable) (a .args .more)
+  asked : (b : Bool) → eqb (a .args .place - 1) (a .args .variable) ≡ b → cond b (reach + a .args .more) reach ≡ longerAt (a .args .t1) (a .args .variable) (a .args .more) (a .args .place)
+  asked b e = ap (λ (b : Bool). cond b (reach + a .args .more) reach) (sym e)
 
 mul-reach : tie.Need-mul-reach
 mul-reach c = search needs
@@ -37,7 +27,7 @@ owner-requires : tie.Need-owner-requires
 owner-requires c κs = search needs
 
 add-result : tie.Need-add-result
-add-result c = search needs
+add-result c = let o = c .before in record { fits = o .before .pre .1 (sym (o .owner .ensures) ∙ c .if1 .taken) }
 
 returns : tie.Need-returns
 returns c = let o = c .before in asked (o .before) _ (eq-eqb _ _ (sym (o .owner .ensures) ∙ c .if1 .taken))

@@ -10,26 +10,33 @@ use lib.IntN.{ℤ, natAbs}
 use mir.Syntax.{w64}
 use mir.Val.{toZ, ofZ}
 use mir.Facts.{toZ-ofZ}
-use Rattle.polynomials.specs.Order.{below}
-use Rattle.polynomials.specs.Groups.{longer}
-use Rattle.layout.specs.Shape.{cumulus, kindsLength}
-use Rattle.layout.specs.Limits.{longestShift, allInRange, good}
-use Rattle.layout.specs.Blocks.{Piece}
+use Rattle.polynomials.specs.Sum.{listed}
+use Rattle.layout.specs.declared.Model.{Model}
+use Rattle.layout.specs.Shape.{Shape, shape}
+use Rattle.layout.specs.Numbers.{reachesRoom}
+use Rattle.layout.specs.Limits.{longestShift, allInRange}
 use Rattle.layout.specs.Sound.{reach, withinCap}
 use Rattle.layout.specs.Reaches.{listedReaches, reachesOf}
-use Rattle.layout.specs.Moving.{movedLimits, moveReach, moveLight}
+use Rattle.layout.specs.Moving.{movedLimits, moveLight}
 use Rattle.layout.specs.Refusals.{limitPast, moveTooHeavy}
+use Rattle.layout.proofs.Fine.{some-table}
 use Rattle.layout.proofs.LimitLaws.{good-facts}
-use Rattle.layout.proofs.Reaches.{listed-one}
+use Rattle.layout.proofs.Reaches.{listed-one, listed-longer}
 use Rattle.layout.proofs.Refused.{first-skip, first-hit}
-use Rattle.tables.proofs.Taken.{first-nothing, range-taken, light-listed}
-use Rattle.moving.specs.Ready.{Lengthened}
-use Rattle.moving.proofs.Steps.{moved-taken, longer-listed, move-far, lengthened, move-one, move-other}
+use Rattle.tables.proofs.Taken.{first-nothing, range-taken}
+use Rattle.moving.specs.Ready.{longerAt, Lengthened}
+use Rattle.moving.proofs.Steps.{movedRoom, moved-held, moved-range, moved-reaches, longerReach, move-far, lengthened, move-one, move-light}
 use Rattle.moving.proofs.refusal.Statement.{statement}
 use Rattle.moving.proofs.refusal.Tie as tie
 
 -- the table, the variable and the shift
 module _ (c : tie.Start) where
+  abbrev m : Model
+  m = c .args .model
+
+  abbrev S : Shape
+  S = shape m
+
   abbrev t : List ℤ
   t = c .args .table .now
 
@@ -40,13 +47,10 @@ module _ (c : tie.Start) where
   s = c .args .shift
 
   abbrev limits : List ℤ
-  limits = movedLimits cumulus i s t
+  limits = movedLimits S i s t
 
   shift-is : toZ w64 (ofZ w64 s) ≡ s
   shift-is = toZ-ofZ (c .fits .shift)
-
-  far : longestShift < natAbs s → allInRange cumulus limits ≡ false
-  far = move-far t i s (c .pre .1 .0) (c .pre .1 .1)
 
 -- its size, as it comes back
 size-is : (c : tie.After-magnitude) → c .magnitude .result ≡ natAbs (s (c .before))
@@ -60,11 +64,11 @@ module _ (c : tie.After-moved) where
   abbrev start : tie.Start
   start = c .before .before .before .before
 
-  moved-is : c .moved .result .numbers ≡ limits start
-  moved-is = c .moved .ensures ∙ ap₂ (movedLimits cumulus (i start)) (shift-is start) (c .before .of .ensures) ∙ moved-taken (i start) (s start) (t start)
+  held : (c .moved .result .model ≡ m start) × (c .moved .result .numbers ≡ movedRoom (m start) (t start) (i start) (s start))
+  held = moved-held (m start) (t start) (i start) (s start) (c .before .of .result) (c .moved .result) _ (c .before .of .ensures) (shift-is start) (c .moved .ensures)
 
-in-range-is : (c : tie.After-in-range) → c .in-range .result ≡ allInRange cumulus (limits (start (c .before)))
-in-range-is c = c .in-range .ensures ∙ ap (allInRange cumulus) (moved-is (c .before))
+in-range-is : (c : tie.After-in-range) → c .in-range .result ≡ allInRange (S (start (c .before))) (limits (start (c .before)))
+in-range-is c = let d = c .before in let o = start d in c .in-range .ensures ∙ moved-range (m o) (t o) (i o) (s o) (d .moved .result) (held d)
 
 -- they are in range
 module _ (c : tie.Else2) where
@@ -74,21 +78,12 @@ module _ (c : tie.Else2) where
   abbrev from : tie.Start
   from = start there
 
-  limits-in-range : allInRange cumulus (limits from) ≡ true
+  limits-in-range : allInRange (S from) (limits from) ≡ true
   limits-in-range = sym (in-range-is (c .before)) ∙ not-false _ (c .if2 .left)
 
-  in-range : allInRange cumulus (there .moved .result .numbers) ≡ true
-  in-range = ap (allInRange cumulus) (moved-is there) ∙ limits-in-range
-
-  variable-in : i from < cumulus .variables
-  variable-in = from .pre .1 .0
-
-  limits-good : good cumulus (t from) ≡ true
-  limits-good = from .pre .1 .1
-
 -- the reaches, as they come back
-reaches-are : (c : tie.After-reaches) → c .reaches .result ≡ listedReaches cumulus (reach (limits (from (c .before))))
-reaches-are c = c .reaches .ensures ∙ ap (λ l. listedReaches cumulus (reach l)) (moved-is (there (c .before)))
+reaches-are : (c : tie.After-reaches) → let o = from (c .before) in c .reaches .result ≡ listedReaches (reach (S o) (movedRoom (m o) (t o) (i o) (s o)))
+reaches-are c = let d = there (c .before) in let o = start d in c .reaches .ensures ∙ moved-reaches (m o) (t o) (i o) (s o) (d .moved .result) (held d)
 
 -- and as they are made longer
 module _ (c : tie.After-longer) where
@@ -98,34 +93,34 @@ module _ (c : tie.After-longer) where
   abbrev origin : tie.Start
   origin = from inside
 
-  abbrev rule : Piece → ℕ → ℕ
-  rule = moveReach cumulus (i origin) (s origin) (t origin)
-
-  longer-is : c .longer .result ≡ listedReaches cumulus rule
+  longer-is : c .longer .result ≡ listedReaches (longerReach (m origin) (t origin) (i origin) (s origin))
   longer-is =
       c .longer .ensures
-      ∙ ap₂ (λ l n. listedReaches cumulus (λ p. longer (i origin) n (reachesOf l p))) (reaches-are (c .before)) (size-is (there inside .before .before .before))
-      ∙ longer-listed (reach (limits origin)) (i origin) (natAbs (s origin))
+      ∙ ap₂ (λ l n. listed reachesRoom (longerAt l (i origin) n)) (reaches-are (c .before)) (size-is (there inside .before .before .before))
+      ∙ listed-longer (reach (S origin) (movedRoom (m origin) (t origin) (i origin) (s origin))) (i origin) (natAbs (s origin))
 
-light-is : (c : tie.After-within-cap) → c .within-cap .result ≡ moveLight cumulus (i (origin (c .before))) (s (origin (c .before))) (t (origin (c .before)))
+light-is : (c : tie.After-within-cap) → let o = origin (c .before) in c .within-cap .result ≡ moveLight (S o) (i o) (s o) (t o)
 light-is c =
     let o = origin (c .before) in
-    c .within-cap .ensures ∙ ap (λ l. withinCap cumulus (t o) (reachesOf l)) (longer-is (c .before)) ∙ light-listed (t o) (rule (c .before)) (move-other (t o) (i o) (s o))
+    c .within-cap .ensures ∙ ap (λ l. withinCap (S o) (t o) (reachesOf l)) (longer-is (c .before)) ∙ move-light (m o) (t o) (i o) (s o)
 
 magnitude-requires : tie.Need-magnitude-requires
 magnitude-requires c κs = tt
 
 returns : tie.Need-returns
-returns c = sym (first-hit limitPast _ (far (c .before .before) (subst (λ n. longestShift < n) (size-is (c .before)) (c .if1 .taken))))
+returns c =
+    let o = c .before .before in
+    sym (first-hit limitPast _ (move-far (m o) (t o) (i o) (s o) (o .pre .1 .0) (o .pre .1 .1) (subst (λ n. longestShift < n) (size-is (c .before)) (c .if1 .taken))))
 
 of-requires : tie.Need-of-requires
-unfolding kindsLength below
-of-requires c κs = omega (arith, c .before .before .pre .0)
+of-requires c κs = let o = c .before .before in omega (arith, o .pre .0, some-table (m o))
 
 moved-requires : tie.Need-moved-requires
 moved-requires c κs =
-    let o = c .before .before .before in
-    (ap (allInRange cumulus) (c .of .ensures) ∙ range-taken (t o) ∙ good-facts cumulus (t o) (o .pre .1 .1) .range, rw (shift-is o) (near (c .before)))
+    let o = c .before .before .before in (
+      range-taken (m o) (t o) (c .of .result) (c .of .ensures) ∙ good-facts (S o) (t o) (o .pre .1 .1) .range,
+      (rw (shift-is o) (near (c .before)), subst (λ m. i o < shape m .variables) (sym (c .of .ensures .0)) (o .pre .1 .0)),
+    )
 
 in-range-requires : tie.Need-in-range-requires
 in-range-requires c κs = tt
@@ -134,19 +129,19 @@ returns-2 : tie.Need-returns-2
 returns-2 c = sym (first-hit limitPast _ (sym (in-range-is (c .before)) ∙ not-true _ (c .if2 .taken)))
 
 reaches-requires : tie.Need-reaches-requires
-reaches-requires c κs = in-range c
+reaches-requires c κs = let d = there c in let o = start d in moved-range (m o) (t o) (i o) (s o) (d .moved .result) (held d) ∙ limits-in-range c
 
 longer-requires : tie.Need-longer-requires
 longer-requires c κs =
     let d = c .before in
     let o = from d in
-    subst (Lengthened (c .reaches .result)) (sym (size-is (there d .before .before .before)))
-    (rw (reaches-are c) (lengthened (t o) (i o) (s o) (variable-in d) (limits-good d) (limits-in-range d)))
+    subst (λ n. Lengthened (c .reaches .result) (i o) n) (sym (size-is (there d .before .before .before)))
+    (rw (reaches-are c) (lengthened (m o) (t o) (i o) (s o) (o .pre .1 .0) (o .pre .1 .1) (limits-in-range d)))
 
 within-cap-requires : tie.Need-within-cap-requires
 within-cap-requires c κs =
     let o = origin c in
-    record { whole = o .pre .0; one = λ k h. rw (longer-is c) (listed-one (rule c) cumulus (move-one (t o) (i o) (s o)) k h) }
+    record { whole = o .pre .0; one = λ k h. rw (longer-is c) (listed-one (longerReach (m o) (t o) (i o) (s o)) (move-one (m o) (t o) (i o) (s o)) k h) }
 
 returns-3 : tie.Need-returns-3
 returns-3 c =

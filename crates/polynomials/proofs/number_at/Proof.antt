@@ -19,7 +19,7 @@ module _ (c : tie.Start) where
   at = (c .args .p + c .args .q) * (c .args .p + c .args .q + 1) / 2 + c .args .q
 
   at-is : at ≡ place (c .args .p) (c .args .q)
-  at-is = ap (λ n. n + c .args .q) (below-is (c .args .p + c .args .q) (c .pre))
+  at-is = ap (λ n. n + c .args .q) (below-is (c .args .p + c .args .q))
 
   low : at < size highestDegree
   low = omega (arith, at-is, place-below (highestDegree + 1) (c .args .p) (c .args .q) (omega (arith, c .pre)))

@@ -42,8 +42,8 @@ module _ (t : List ℤ) (x : ℕ → Float) where
   door-rounding-unique i z = reading-unique (x i) z
 
   -- A finite reading is that whole number where it is inside the limits, and otherwise outside with the float as given; any other is not finite.
-  pub door-step : (i : ℕ) → stepAt t x i ≡ cond (finite (x i)) (cond (inside t (roundedAll x) i) (Whole (roundedAll x i)) (Outside (x i))) NotFinite
-  door-step i = step-is (x i) (lowest t i) (highest t i)
+  pub door-step : (i : ℕ) → stepAt cumulus t x i ≡ cond (finite (x i)) (cond (inside cumulus t (roundedAll x) i) (Whole (roundedAll x i)) (Outside (x i))) NotFinite
+  door-step i = step-is (x i) (lowest cumulus t i) (highest cumulus t i)
 
   -- ════ The number
   -- The refusals, in their order: the table's length, limits and weights, then over all five a step that is not finite, then one that is outside.
@@ -52,7 +52,7 @@ module _ (t : List ℤ) (x : ℕ → Float) where
       ((wrongTable when not (eqb (length t) (tableLength cumulus)))
       ∷ (badLimits when not (good cumulus t))
       ∷ (tooHeavy when not (light cumulus t))
-      ∷ (listed (cumulus .variables) (λ i. numberOf i (stepAt t x i) when isNotFinite (stepAt t x i)) ++ listed (cumulus .variables) (λ i. numberOf i (stepAt t x i) when isOutside (stepAt t x i))))
+      ∷ (listed (cumulus .variables) (λ i. numberOf cumulus i (stepAt cumulus t x i) when isNotFinite (stepAt cumulus t x i)) ++ listed (cumulus .variables) (λ i. numberOf cumulus i (stepAt cumulus t x i) when isOutside (stepAt cumulus t x i))))
   unfolding doorNumber
   door-refusals = refl
 
@@ -62,7 +62,7 @@ module _ (t : List ℤ) (x : ℕ → Float) where
       ((wrongTable when not (eqb (length t) (tableLength cumulus)))
       ∷ (badLimits when not (good cumulus t))
       ∷ (tooHeavy when not (light cumulus t))
-      ∷ (listed (cumulus .variables) (λ i. notFinite i when not (finite (x i))) ++ listed (cumulus .variables) (λ i. outside i when not (inside t (roundedAll x) i))))
+      ∷ (listed (cumulus .variables) (λ i. notFinite cumulus i when not (finite (x i))) ++ listed (cumulus .variables) (λ i. outside cumulus i when not (inside cumulus t (roundedAll x) i))))
   door-refusals-of-floats = number-told t x
 
   -- Five finite readings are answered as the whole-number read of the rounded readings is: the number,
@@ -81,11 +81,11 @@ module _ (t : List ℤ) (x : ℕ → Float) where
 
   -- ════ The reading handed back
   -- With 11 to 15 the step of that variable is outside, and what it carries, the float as given, is handed back.
-  pub door-hands-back-outside : (i : ℕ) → i < cumulus .variables → doorNumber cumulus t x ≡ outside i → (stepAt t x i ≡ Outside (x i)) × (doorReading cumulus t x ≡ handedBack (stepAt t x i))
+  pub door-hands-back-outside : (i : ℕ) → i < cumulus .variables → doorNumber cumulus t x ≡ outside cumulus i → (stepAt cumulus t x i ≡ Outside (x i)) × (doorReading cumulus t x ≡ handedBack (stepAt cumulus t x i))
   door-hands-back-outside = reading-step t x
 
   -- With every other number, 0 included, that place is positive zero.
-  pub door-hands-back-nothing-else : ((i : ℕ) → i < cumulus .variables → doorNumber cumulus t x ≡ outside i → ⊥) → doorReading cumulus t x ≡ positiveZero
+  pub door-hands-back-nothing-else : ((i : ℕ) → i < cumulus .variables → doorNumber cumulus t x ≡ outside cumulus i → ⊥) → doorReading cumulus t x ≡ positiveZero
   door-hands-back-nothing-else = reading-elsewhere t x
 
   -- None of the seven floats is a NaN: a NaN stands for many patterns of bits in the kit's model, any other float for one, so the answer is known to the bit.

@@ -9,6 +9,7 @@ use native.Mathlib.Omega.{arith}
 use lib.IntN.{ℤ, pos, natAbs, _-ℤ_, _*ℤ_}
 use lib.ListN.{length, getD}
 use lib.Signed.{_≤ℤ_}
+use Rattle.layout.specs.declared.Model.the-variants.{Cumulus}
 use Rattle.layout.specs.Shape.{cumulus}
 use Rattle.layout.specs.Limits.{lowest, highest}
 use Rattle.layout.specs.Refusals.{done, wrongOutput, outside}
@@ -20,12 +21,12 @@ use Rattle.microradians.specs.Answer.{fineLimits, fineNumber, fineOutput}
 use Rattle.microradians.proofs.Answers.{wrong-room, refused, room-number, accepted}
 use Rattle.microradians.proofs.Exact.{near-followed, near-counted, near-asked}
 use Rattle.microradians.proofs.Whole.{lowest-whole, highest-whole, number-whole, near-whole}
-use Rattle.promises.proofs.Promises.Tables.{inside-rule, outside-named}
+use Rattle.promises.proofs.Promises.Tables.{every-model-is-well-formed, inside-rule, outside-named}
 
 -- A reading is inside where it is in the envelope times 1000, ends included.
-pub fine-inside-rule : (x : ℕ → ℤ) (i : ℕ) → i < cumulus .variables → (inside fineLimits x i ≡ true) ↔ (((pos 1000 *ℤ lowest published i) ≤ℤ x i) × (x i ≤ℤ (pos 1000 *ℤ highest published i)))
+pub fine-inside-rule : (x : ℕ → ℤ) (i : ℕ) → i < cumulus .variables → (inside cumulus fineLimits x i ≡ true) ↔ (((pos 1000 *ℤ lowest cumulus published i) ≤ℤ x i) × (x i ≤ℤ (pos 1000 *ℤ highest cumulus published i)))
 fine-inside-rule x i h =
-    let r = inside-rule fineLimits x i in (
+    let r = inside-rule cumulus fineLimits x i in (
       λ e. (subst (λ z. z ≤ℤ x i) (lowest-whole i h) (r .0 e .0), subst (λ z. x i ≤ℤ z) (highest-whole i h) (r .0 e .1)),
       λ g. r .1 (subst (λ z. z ≤ℤ x i) (sym (lowest-whole i h)) (g .0), subst (λ z. x i ≤ℤ z) (sym (highest-whole i h)) (g .1)),
     )
@@ -36,13 +37,13 @@ module _ (x : ℕ → ℤ) (out : List ℤ) where
   fine-needs-room h = let w = wrong-room x out h in (sym (w .0), sym (w .1))
 
   -- With room, a state is read exactly where all its readings are inside,
-  pub fine-read-exactly : length out ≡ cumulus .blocks → (fineNumber x out ≡ done) ↔ ((i : ℕ) → i < cumulus .variables → inside fineLimits x i ≡ true)
+  pub fine-read-exactly : length out ≡ cumulus .blocks → (fineNumber x out ≡ done) ↔ ((i : ℕ) → i < cumulus .variables → inside cumulus fineLimits x i ≡ true)
   fine-read-exactly six = (λ e. accepted x out .0 e .1, accepted x out .1 six)
 
   -- and 11 to 15 are given exactly for the first reading that is outside.
   pub fine-outside-is-named : length out ≡ cumulus .blocks → (i : ℕ) → i < cumulus .variables
-      → (fineNumber x out ≡ outside i) ↔ (((k : ℕ) → k < i → inside fineLimits x k ≡ true) × (inside fineLimits x i ≡ false))
-  fine-outside-is-named six i h = same-exactly (room-number x out six) (outside-named cumulus fineLimits x i h)
+      → (fineNumber x out ≡ outside cumulus i) ↔ (((k : ℕ) → k < i → inside cumulus fineLimits x k ≡ true) × (inside cumulus fineLimits x i ≡ false))
+  fine-outside-is-named six i h = same-exactly (room-number x out six) (outside-named cumulus (every-model-is-well-formed Cumulus) fineLimits x i h)
 
   -- A refusal writes nothing into the lent space.
   pub refused-fine-read-writes-nothing : 0 < fineNumber x out → fineOutput x out ≡ out

@@ -19,7 +19,8 @@ use Rattle.layout.specs.Moving.{movedLimit, movedLimits, movedTable, movedState
 use Rattle.layout.specs.Accepted.{MoveAccepted}
 use Rattle.layout.proofs.Sizes.{table-size}
 use Rattle.layout.proofs.LimitLaws.{good-facts, range-within, within-range}
-use Rattle.layout.proofs.Weights.{withinCap-fact, fact-withinCap, cumulus-variables}
+use Rattle.layout.proofs.Weights.{withinCap-fact, fact-withinCap}
+use Rattle.layout.specs.declared.Model.the-variants.{Cumulus}
 use Rattle.layout.proofs.Moved.{getD-movedLimits, movedTable-twice, movedTable-nil, movedTable-back, movedTable-swap}
 use Rattle.layout.proofs.SoundMoved.{moved-sound, still-range, still-light}
 use Rattle.layout.proofs.ReadingMoved.{readings-moved, readNumber-moved, readOutput-moved}
@@ -28,10 +29,11 @@ use Rattle.layout.proofs.Accepted.{move-told, sound-limits, sound-weights, move
 use Rattle.cumulus.specs.Envelope.{farthestMove}
 use Rattle.cumulus.specs.Published.{published}
 use Rattle.cumulus.proofs.Moves.{move-accepted}
+use Rattle.promises.proofs.Promises.Tables.{every-model-is-well-formed}
 
 -- What some of these ask of a shape, that of a Cumulus One table has.
 pub cumulus-well-formed : WellFormed cumulus
-cumulus-well-formed = record { has-variable = omega arith; in-variables = cumulus-variables }
+cumulus-well-formed = every-model-is-well-formed Cumulus
 
 module _ (S : Shape) where
   -- ════ What a move leaves
@@ -66,7 +68,7 @@ module _ (S : Shape) where
     move-no-other-number = move-no-other S t i s out w room known
 
   -- In range: each moved limit is in -2000..2000.
-  pub range-rule : (t : List ℤ) (i : ℕ) (s : ℤ) → (allInRange S (movedLimits S i s t) ≡ true) ↔ ((k : ℕ) → k < limitsLength S → natAbs (movedLimit i s t k) ≤ 2000)
+  pub range-rule : (t : List ℤ) (i : ℕ) (s : ℤ) → (allInRange S (movedLimits S i s t) ≡ true) ↔ ((k : ℕ) → k < limitsLength S → natAbs (movedLimit S i s t k) ≤ 2000)
   range-rule t i s = (
     λ e k h. rw (getD-movedLimits S i s t k h) at (range-within S (movedLimits S i s t) e k h),
     λ f. within-range S (movedLimits S i s t) (λ k h. rw (getD-movedLimits S i s t k h) (f k h)),

@@ -12,13 +12,15 @@ use lib.ListN.{length, getD, replicate}
 use lib.Signed.{leZ, _≤ℤ_, _<ℤ_}
 use Rattle.polynomials.specs.Groups.{totalWeight}
 use Rattle.polynomials.specs.Limits.{cap}
-use Rattle.layout.specs.Shape.{Shape, limitsLength, blockLength, blockStart, tableLength, cumulus}
+use Rattle.layout.specs.declared.Model.{Model}
+use Rattle.layout.specs.Shape.{Shape, WellFormed, limitsLength, blockLength, blockStart, tableLength, cumulus, shape}
 use Rattle.layout.specs.Limits.{lowest, highest, cut, good}
 use Rattle.layout.specs.Blocks.{Piece, coefficient}
 use Rattle.layout.specs.Sound.{reach, light, SoundTable}
 use Rattle.layout.specs.Refusals.{_when_, first, done, wrongOutput, outside}
 use Rattle.layout.specs.Reading.{inside, values, readNumber, readOutput}
 use Rattle.layout.specs.Accepted.{ReadAccepted}
+use Rattle.layout.proofs.Fine.{well-formed}
 use Rattle.layout.proofs.Sizes.{block-size, start-size, table-size}
 use Rattle.layout.proofs.Tests.{&&-left, &&-right, &&-both, leZ-fact, fact-leZ}
 use Rattle.layout.proofs.LimitLaws.{good-facts, facts-good, limit-within, within-range}
@@ -38,6 +40,10 @@ use Rattle.cumulus.proofs.Model.{own-variables, read-model}
 use Rattle.cumulus.proofs.Scaling.{scaling}
 use Rattle.cumulus.proofs.Checked.{all-checked}
 use Rattle.door.proofs.Firsts.{first-exactly}
+
+-- What some of these ask of a shape, that of every model's tables has: the tables that the code serves.
+pub every-model-is-well-formed : (m : Model) → WellFormed (shape m)
+every-model-is-well-formed = well-formed
 
 -- ════ Layout
 -- A table has 311 numbers: 11 limits, and six blocks of 50.
@@ -76,15 +82,15 @@ published-scaling = scaling
 -- ════ Sound tables
 -- Good limits: each lies in -2000..2000, alpha's lowest <= cut < highest, and each lowest is at most its highest.
 pub good-rule : (S : Shape) (t : List ℤ)
-    → (good S t ≡ true) ↔ (((k : ℕ) → k < limitsLength S → natAbs (getD t k (pos 0)) ≤ 2000) × (lowest t 0 ≤ℤ cut t) × (cut t <ℤ highest t 0) × ((i : ℕ) → i < S .variables → lowest t i ≤ℤ highest t i))
+    → (good S t ≡ true) ↔ (((k : ℕ) → k < limitsLength S → natAbs (getD t k (pos 0)) ≤ 2000) × (lowest S t 0 ≤ℤ cut S t) × (cut S t <ℤ highest S t 0) × ((i : ℕ) → i < S .variables → lowest S t i ≤ℤ highest S t i))
 good-rule S t = (
   λ e. let g = good-facts S t e in (limit-within S t g, g .lowest-cut, g .cut-highest, g .ordered),
   λ h. facts-good S t (record { range = within-range S t (h .0); lowest-cut = h .1; cut-highest = h .2; ordered = h .3 }),
 )
 
 -- No weight of a light table passes the cap: over every block and piece, at the reaches of the table's own limits.
-pub light-rule : (S : Shape) (t : List ℤ) → (light S t ≡ true) ↔ ((b : ℕ) → b < S .blocks → (p : Piece) → totalWeight (coefficient S t b p) (reach t p) ≤ cap)
-light-rule S t = (withinCap-fact S t (reach t), fact-withinCap S t (reach t))
+pub light-rule : (S : Shape) (t : List ℤ) → (light S t ≡ true) ↔ ((b : ℕ) → b < S .blocks → (p : Piece) → totalWeight (coefficient S t b p) (reach S t p) ≤ cap)
+light-rule S t = (withinCap-fact S t (reach S t), fact-withinCap S t (reach S t))
 
 -- The smallest 64-bit number is too heavy in any place from 11 on.
 pub smallest-too-heavy : (t : List ℤ) (k : ℕ) → limitsLength cumulus ≤ k → k < tableLength cumulus → getD t k (pos 0) ≡ negsuc 9_223_372_036_854_775_807 → light cumulus t ≡ false
@@ -106,24 +112,24 @@ published-refuses-the-outside x out = read-inside x out
 
 -- ════ Reading any table
 -- A reading is inside where it is between its variable's limits, ends included.
-pub inside-rule : (t : List ℤ) (x : ℕ → ℤ) (i : ℕ) → (inside t x i ≡ true) ↔ ((lowest t i ≤ℤ x i) × (x i ≤ℤ highest t i))
-inside-rule t x i = (
-  λ e. (leZ-fact (&&-left (leZ (lowest t i) (x i)) (leZ (x i) (highest t i)) e), leZ-fact (&&-right (leZ (lowest t i) (x i)) (leZ (x i) (highest t i)) e)),
+pub inside-rule : (S : Shape) (t : List ℤ) (x : ℕ → ℤ) (i : ℕ) → (inside S t x i ≡ true) ↔ ((lowest S t i ≤ℤ x i) × (x i ≤ℤ highest S t i))
+inside-rule S t x i = (
+  λ e. (leZ-fact (&&-left (leZ (lowest S t i) (x i)) (leZ (x i) (highest S t i)) e), leZ-fact (&&-right (leZ (lowest S t i) (x i)) (leZ (x i) (highest S t i)) e)),
   λ h. &&-both (fact-leZ (h .0)) (fact-leZ (h .1)),
 )
 
 -- Of the refusals of readings by limits, the first that holds is that of the first reading outside.
-pub outside-named : (S : Shape) (t : List ℤ) (x : ℕ → ℤ) (i : ℕ) → i < S .variables
-    → (first (refusedReadings S t x) ≡ outside i) ↔ (((k : ℕ) → k < i → inside t x k ≡ true) × (inside t x i ≡ false))
-outside-named S t x i h =
-    let q = first-exactly (λ k. outside k when not (inside t x k)) (S .variables) i h (omega arith) (λ k b d. omega arith) in (
-      λ d. ((λ k b. not-false (inside t x k) (q .0 d .0 k b)), not-true (inside t x i) (q .0 d .1)),
+pub outside-named : (S : Shape) → WellFormed S → (t : List ℤ) (x : ℕ → ℤ) (i : ℕ) → i < S .variables
+    → (first (refusedReadings S t x) ≡ outside S i) ↔ (((k : ℕ) → k < i → inside S t x k ≡ true) × (inside S t x i ≡ false))
+outside-named S w t x i h =
+    let q = first-exactly (λ k. outside S k when not (inside S t x k)) (S .variables) i h (omega arith) (λ k b d. w .named k i b h (omega arith)) in (
+      λ d. ((λ k b. not-false (inside S t x k) (q .0 d .0 k b)), not-true (inside S t x i) (q .0 d .1)),
       λ g. q .1 ((λ k b. ap not (g .0 k b)), ap not (g .1)),
     )
 
 module _ (S : Shape) (t : List ℤ) (x : ℕ → ℤ) (out : List ℤ) where
   -- A sound table, with room, is read at every reading inside its limits by the same sum over its own numbers,
-  pub sound-answers-its-sum : SoundTable S t → length out ≡ S .blocks → ((i : ℕ) → i < S .variables → inside t x i ≡ true)
+  pub sound-answers-its-sum : SoundTable S t → length out ≡ S .blocks → ((i : ℕ) → i < S .variables → inside S t x i ≡ true)
       → (readNumber S t x out ≡ done) × (readOutput S t x out ≡ values S t x)
   sound-answers-its-sum w e h =
       let d = read-done S t x out (w .long) e (sound-limits w) (sound-weights w) h in
@@ -134,9 +140,9 @@ module _ (S : Shape) (t : List ℤ) (x : ℕ → ℤ) (out : List ℤ) where
   only-sound-is-read = read-told S t x out
 
   -- A sound table, with room, gives 11 to 15 exactly for the first of the readings that is outside.
-  pub first-outside-is-named : SoundTable S t → length out ≡ S .blocks → (i : ℕ) → i < S .variables
-      → (readNumber S t x out ≡ outside i) ↔ (((k : ℕ) → k < i → inside t x k ≡ true) × (inside t x i ≡ false))
-  first-outside-is-named w e i h = same-exactly (read-sound S t x out (w .long) e (sound-limits w) (sound-weights w)) (outside-named S t x i h)
+  pub first-outside-is-named : WellFormed S → SoundTable S t → length out ≡ S .blocks → (i : ℕ) → i < S .variables
+      → (readNumber S t x out ≡ outside S i) ↔ (((k : ℕ) → k < i → inside S t x k ≡ true) × (inside S t x i ≡ false))
+  first-outside-is-named f w e i h = same-exactly (read-sound S t x out (w .long) e (sound-limits w) (sound-weights w)) (outside-named S f t x i h)
 
   -- A refusal writes nothing into the lent space.
   pub refused-read-writes-nothing : 0 < readNumber S t x out → readOutput S t x out ≡ out

@@ -1,0 +1,52 @@
+// The Cumulus One table: alpha, beta, xi, eta and zeta are its variables, and X, Y, Z, l, m and n its blocks.
+ghost use mathlib.Core.Path.{_≡_};
+ghost use Prim.Native.Nat.{_<_};
+ghost use lib.ListN.{length};
+ghost use Rattle.layout.specs.Shape.{cumulus, kindAt};
+use super::Kind;
+
+pub const VARIABLES: usize = 5;
+
+pub const BLOCKS: usize = 6;
+
+// The limits come first: lowest and highest of each variable, and the cut of alpha.
+pub const LIMITS: usize = 1 + 2 * VARIABLES;
+
+// Then the blocks. In a block: the low and the high group in alpha and eta, then the side groups in beta and xi and in beta and zeta.
+pub const GROUPS: usize = 4;
+
+pub const PITCH_DEGREE: usize = 3;
+
+pub const SIDE_DEGREE: usize = 4;
+
+const PITCH: usize = (PITCH_DEGREE + 1) * (PITCH_DEGREE + 2) / 2;
+
+pub const SIDE: usize = (SIDE_DEGREE + 1) * (SIDE_DEGREE + 2) / 2;
+
+pub const BLOCK: usize = 2 * PITCH + 2 * SIDE;
+
+pub const TABLE: usize = LIMITS + BLOCK * BLOCKS;
+
+// The groups of every block.
+pub fn kind(group: usize) -> Kind
+    requires { ⌜ group < length (cumulus .kinds) ⌝ }
+    ensures { λ r. ⌜ r ≡ kindAt cumulus group ⌝ }
+{
+    match group {
+        0 | 1 => Kind {
+            u: 0,
+            v: 3,
+            degree: PITCH_DEGREE,
+        },
+        2 => Kind {
+            u: 1,
+            v: 2,
+            degree: SIDE_DEGREE,
+        },
+        _ => Kind {
+            u: 1,
+            v: 4,
+            degree: SIDE_DEGREE,
+        },
+    }
+}
