@@ -1,24 +1,18 @@
--- The readings where no step refuses: each is rounded, lies within its limits, and the coefficients are read at it.
+-- The readings where no step refuses: each is rounded, and lies within its limits.
 --   whole-step                   a step that is neither of the two refusals
 --   step-whole, rounded-inside   what such a step holds, and that it is inside
---   total-agreed                 a coefficient is read at the five variables alone
-use mathlib.Core.Path.{_≡_, refl, sym, _∙_, ap, ap₂}
+use mathlib.Core.Path.{_≡_, refl}
 use mathlib.Core.Bool.{true, false, true≢false}
-use mathlib.Core.List.{List, [], _∷_}
+use mathlib.Core.List.{List}
 use Prim.Native.Nat.{ℕ, _<_}
-use native.Mathlib.Omega.{arith}
-use lib.IntN.{ℤ, pos, _+ℤ_}
+use lib.IntN.{ℤ}
 use lib.Signed.{_≤ℤ_}
 use lib.Ieee.{Float}
-use Rattle.polynomials.specs.Group.{value}
-use Rattle.polynomials.specs.Groups.{grouped, total}
 use Rattle.layout.specs.Shape.{cumulus}
 use Rattle.layout.specs.Limits.{lowest, highest}
-use Rattle.layout.specs.Blocks.{Piece, low, high, piece, coefficient}
 use Rattle.layout.specs.Refusals.{first}
 use Rattle.layout.specs.Reading.{inside}
 use Rattle.layout.proofs.Tests.{&&-both, fact-leZ}
-use Rattle.layout.proofs.Parts.{coefficient-parts}
 use Rattle.rounding.specs.Reading.{wholeOf}
 use Rattle.rounding.specs.declared.Step.{Step}
 use Rattle.rounding.specs.declared.Step.the-variants.{Whole}
@@ -48,19 +42,3 @@ module _ (t : List ℤ) (x : ℕ → Float) (finite : first (notFinites cumulus 
 
   pub rounded-inside : inside cumulus t (roundedAll x) i ≡ true
   rounded-inside = &&-both (fact-leZ (rounded .low)) (fact-leZ (rounded .high))
-
--- ---- the five variables
-module _ (w v : ℕ → ℤ) (h : (i : ℕ) → i < cumulus .variables → w i ≡ v i) where
-  three-agreed : (k l m : List ℤ) → total (grouped 0 3 k ∷ grouped 1 2 l ∷ grouped 1 4 m ∷ []) w ≡ total (grouped 0 3 k ∷ grouped 1 2 l ∷ grouped 1 4 m ∷ []) v
-  unfolding total
-  three-agreed k l m =
-      ap₂ _+ℤ_ (ap₂ (value k) (h 0 (omega arith)) (h 3 (omega arith)))
-      (ap₂ _+ℤ_ (ap₂ (value l) (h 1 (omega arith)) (h 2 (omega arith))) (ap (λ z. z +ℤ pos 0) (ap₂ (value m) (h 1 (omega arith)) (h 4 (omega arith)))))
-
-  part-agreed : (t : List ℤ) (b n : ℕ) → n < 2 → total (coefficient cumulus t b (piece n)) w ≡ total (coefficient cumulus t b (piece n)) v
-  part-agreed t b n k =
-      ap (λ gs. total gs w) (coefficient-parts t b n k) ∙ three-agreed _ _ _ ∙ ap (λ gs. total gs v) (sym (coefficient-parts t b n k))
-
-  pub total-agreed : (t : List ℤ) (b : ℕ) (p : Piece) → total (coefficient cumulus t b p) w ≡ total (coefficient cumulus t b p) v
-  total-agreed t b low = part-agreed t b 0 (omega arith)
-  total-agreed t b high = part-agreed t b 1 (omega arith)

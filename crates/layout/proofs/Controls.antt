@@ -3,21 +3,21 @@
 use mathlib.Core.Path.{_≡_, refl}
 use mathlib.Core.Bool.{Bool, true, false}
 use mathlib.Core.List.{List, [], _∷_, _++_, map}
-use Prim.Native.Nat.{ℕ, _-_, _*_}
+use Prim.Native.Nat.{ℕ, suc, _-_, _*_}
 use lib.IntN.{ℤ, pos, negℤ, pow, one}
-use lib.ListN.{length, replicate, getD}
+use lib.ListN.{length, replicate, getD, take, drop}
 use Rattle.polynomials.specs.Sum.{sum, listed}
 use Rattle.polynomials.specs.Order.{powers, below, size}
 use Rattle.polynomials.specs.Binomial.{choose}
 use Rattle.polynomials.specs.Group.{number, term, evaluated, given, movedNumber, replaced}
 use Rattle.polynomials.specs.Groups.{total, totalWeight, movedGroup, longer}
-use Rattle.layout.specs.Shape.{Shape, limitsLength, lowestPlace, highestPlace, kindsLength, blockLength, blockStart, tableLength, cumulus}
-use Rattle.layout.specs.Numbers.{limitsSize, blockSize, tableSize, pitchDegree, sideDegree, pitchSize, sideSize, xiStart, zetaStart}
+use Rattle.layout.specs.Shape.{Shape, limitsLength, lowestPlace, highestPlace, kindsLength, blockLength, blockStart, tableLength, cumulus, gtm}
+use Rattle.layout.specs.Numbers.{limitsSize, blockSize, tableSize, pitchSize, sideSize, variablesRoom, limitsRoom, reachesRoom}
 use Rattle.layout.specs.Limits.{every, allInRange, good}
 use Rattle.layout.specs.Blocks.{low, high, block, groups, laidOut, chosen, coefficient}
 use Rattle.layout.specs.Sound.{reach, withinCap, light, sound}
 use Rattle.layout.specs.Reaches.{listedReaches, reachesOf}
-use Rattle.layout.specs.Refusals.{first}
+use Rattle.layout.specs.Refusals.{outside, first}
 use Rattle.layout.specs.Reading.{readings, inside, values, readNumber, readOutput}
 use Rattle.layout.specs.Moving.{owner, joined, movedLimit, movedLimits, movedBlock, movedTable, moveNumber, moveOutput}
 
@@ -26,13 +26,16 @@ lengths : limitsLength cumulus ∷ blockLength cumulus ∷ tableLength cumulus �
 unfolding kindsLength below
 lengths = refl
 
-named : limitsSize ∷ pitchSize ∷ sideSize ∷ xiStart ∷ zetaStart ∷ blockSize ∷ tableSize ∷ [] ≡ 11 ∷ size 3 ∷ size 4 ∷ 20 ∷ 35 ∷ 50 ∷ 311 ∷ []
+named : limitsSize ∷ pitchSize ∷ sideSize ∷ blockSize ∷ tableSize ∷ [] ≡ 11 ∷ size 3 ∷ size 4 ∷ 50 ∷ 311 ∷ []
 unfolding below
 named = refl
 
-degrees : size pitchDegree ∷ size sideDegree ∷ [] ≡ 10 ∷ 15 ∷ []
-unfolding below
-degrees = refl
+rooms : variablesRoom ∷ limitsRoom ∷ reachesRoom ∷ [] ≡ 5 ∷ 11 ∷ 6 ∷ []
+rooms = refl
+
+refused-by : listed 5 (outside cumulus) ≡ 11 ∷ 12 ∷ 13 ∷ 14 ∷ 15 ∷ []
+unfolding listed
+refused-by = refl
 
 starts : map (blockStart cumulus) (0 ∷ 1 ∷ 2 ∷ 3 ∷ 4 ∷ 5 ∷ []) ≡ 11 ∷ 61 ∷ 111 ∷ 161 ∷ 211 ∷ 261 ∷ []
 unfolding kindsLength below
@@ -251,3 +254,49 @@ read-output = refl
 move-output : map (λ i. getD (moveOutput smallShape table i (pos 4) (replicate 19 (pos 8))) 0 (pos 0)) (0 ∷ 2 ∷ []) ≡ negℤ (pos 14) ∷ pos 8 ∷ []
 unfolding sum listed powers below choose number term evaluated given movedNumber replaced totalWeight movedGroup longer kindsLength every allInRange good groups laidOut chosen coefficient withinCap first movedLimit movedLimits movedBlock joined movedTable moveNumber moveOutput pow one
 move-output = refl
+
+-- ════ the GTM's shape: alpha and eta, and three blocks
+gtm-lengths : limitsLength gtm ∷ blockLength gtm ∷ tableLength gtm ∷ [] ≡ 5 ∷ 20 ∷ 65 ∷ []
+unfolding kindsLength below
+gtm-lengths = refl
+
+gtm-starts : map (blockStart gtm) (0 ∷ 1 ∷ 2 ∷ []) ≡ 5 ∷ 25 ∷ 45 ∷ []
+unfolding kindsLength below
+gtm-starts = refl
+
+gtm-refused-by : listed 2 (outside gtm) ≡ 11 ∷ 14 ∷ []
+unfolding listed
+gtm-refused-by = refl
+
+-- made up: alpha from -20 to 30 with the cut at 5, eta from -4 to 6, and the numbers 1 to 60
+abbrev madeUp : List ℤ
+madeUp = bounds (negℤ (pos 20)) (pos 5) (pos 30) (negℤ (pos 4)) (pos 6) ++ listed 60 (λ n. pos (suc n))
+
+-- the numbers given back at an output of n numbers
+unfoldable gtmGives : ℤ → ℤ → ℕ → ℕ
+unfolding sum listed powers below term evaluated totalWeight kindsLength every allInRange good groups chosen coefficient withinCap first readNumber
+gtmGives a e n = readNumber gtm madeUp (readings (a ∷ e ∷ [])) (replicate n (pos 0))
+
+-- at the highest readings, past alpha's, past eta's, past both, and with room for two
+gtm-order : gtmGives (pos 30) (pos 6) 3 ∷ gtmGives (pos 31) (pos 6) 3 ∷ gtmGives (pos 30) (pos 7) 3 ∷ gtmGives (pos 31) (pos 7) 3 ∷ gtmGives (pos 31) (pos 7) 2 ∷ [] ≡ 0 ∷ 11 ∷ 14 ∷ 11 ∷ 2 ∷ []
+unfolding gtmGives
+gtm-order = refl
+
+-- at the cut, and one past it
+gtm-read : map (λ a. values gtm madeUp (readings (a ∷ negℤ (pos 3) ∷ []))) (pos 5 ∷ pos 6 ∷ [])
+    ≡ (pos 491 ∷ pos 2291 ∷ pos 4091 ∷ [])
+    ∷ (pos 2636 ∷ pos 5956 ∷ pos 9276 ∷ [])
+    ∷ []
+unfolding sum listed powers below term evaluated total kindsLength groups chosen coefficient values pow one
+gtm-read = refl
+
+-- by 7 in alpha, and by -2 in eta: the limits and the first block, and the last group
+gtm-moved-in-alpha : (take 25 (movedTable gtm 0 (pos 7) madeUp) ≡ negℤ (pos 27) ∷ negℤ (pos 2) ∷ pos 23 ∷ negℤ (pos 4) ∷ pos 6 ∷ pos 2612 ∷ pos 1087 ∷ pos 430 ∷ pos 151 ∷ pos 117 ∷ pos 69 ∷ pos 7 ∷ pos 8 ∷ pos 9 ∷ pos 10 ∷ pos 6612 ∷ pos 2707 ∷ pos 1000 ∷ pos 371 ∷ pos 267 ∷ pos 149 ∷ pos 17 ∷ pos 18 ∷ pos 19 ∷ pos 20 ∷ [])
+    × (drop 55 (movedTable gtm 0 (pos 7) madeUp) ≡ pos 22612 ∷ pos 9187 ∷ pos 3280 ∷ pos 1251 ∷ pos 867 ∷ pos 469 ∷ pos 57 ∷ pos 58 ∷ pos 59 ∷ pos 60 ∷ [])
+unfolding sum listed powers below choose number term evaluated given movedNumber replaced movedGroup kindsLength groups laidOut movedLimit movedLimits movedBlock joined movedTable pow one
+gtm-moved-in-alpha = (refl, refl)
+
+gtm-moved-in-eta : (take 25 (movedTable gtm 1 (negℤ (pos 2)) madeUp) ≡ negℤ (pos 20) ∷ pos 5 ∷ pos 30 ∷ negℤ (pos 2) ∷ pos 8 ∷ negℤ (pos 61) ∷ pos 28 ∷ pos 99 ∷ negℤ (pos 12) ∷ negℤ (pos 31) ∷ negℤ (pos 54) ∷ pos 7 ∷ pos 8 ∷ pos 9 ∷ pos 10 ∷ negℤ (pos 111) ∷ pos 58 ∷ pos 189 ∷ negℤ (pos 22) ∷ negℤ (pos 61) ∷ negℤ (pos 104) ∷ pos 17 ∷ pos 18 ∷ pos 19 ∷ pos 20 ∷ [])
+    × (drop 55 (movedTable gtm 1 (negℤ (pos 2)) madeUp) ≡ negℤ (pos 311) ∷ pos 178 ∷ pos 549 ∷ negℤ (pos 62) ∷ negℤ (pos 181) ∷ negℤ (pos 304) ∷ pos 57 ∷ pos 58 ∷ pos 59 ∷ pos 60 ∷ [])
+unfolding sum listed powers below choose number term evaluated given movedNumber replaced movedGroup kindsLength groups laidOut movedLimit movedLimits movedBlock joined movedTable pow one
+gtm-moved-in-eta = (refl, refl)

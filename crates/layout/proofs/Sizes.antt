@@ -1,21 +1,12 @@
 -- The lengths and starts of a Cumulus One table, by the names that the code has for them.
---   pitch-size, side-size   how many numbers a group has
 --   block-size   how many numbers a block has
 --   start-size   where a block starts
 --   table-size   how many numbers a table has
 use mathlib.Core.Path.{_≡_, refl}
 use Prim.Native.Nat.{ℕ, _+_, _*_}
-use Rattle.polynomials.specs.Order.{below, size}
+use Rattle.polynomials.specs.Order.{below}
 use Rattle.layout.specs.Shape.{kindsLength, blockLength, blockStart, tableLength, cumulus}
-use Rattle.layout.specs.Numbers.{limitsSize, pitchDegree, sideDegree, pitchSize, sideSize, blockSize, tableSize}
-
-pub pitch-size : size pitchDegree ≡ pitchSize
-unfolding below
-pitch-size = refl
-
-pub side-size : size sideDegree ≡ sideSize
-unfolding below
-side-size = refl
+use Rattle.layout.specs.Numbers.{limitsSize, blockSize, tableSize}
 
 pub block-size : blockLength cumulus ≡ blockSize
 unfolding kindsLength below

@@ -12,11 +12,11 @@ use lib.ListN.{length, drop}
 use lib.Seq.{drop-cons, drop-nil, drop-drop}
 use Rattle.polynomials.specs.Order.{size}
 use Rattle.layout.specs.declared.Kind.{Kind}
-use Rattle.layout.specs.Shape.{Shape, kindsLength, noKind, kindAt}
+use Rattle.layout.specs.Shape.{Shape, kindsLength, kindAt}
 use Rattle.layout.specs.Blocks.{led, groups}
 
 pub at-kind : (S : Shape) (g : ℕ) (k : Kind) → g < length (S .kinds) → k ≡ kindAt S g → drop g (S .kinds) ≡ k ∷ drop (g + 1) (S .kinds)
-at-kind S g k h e = drop-cons (S .kinds) g noKind h ∙ ap₂ (λ a n. a ∷ drop n (S .kinds)) (sym e) (sym (add-one g))
+at-kind S g k h e = drop-cons (S .kinds) g _ h ∙ ap₂ (λ a n. a ∷ drop n (S .kinds)) (sym e) (sym (add-one g))
 
 module _ (S : Shape) (g : ℕ) where
   module _ (k : Kind) (e : drop g (S .kinds) ≡ k ∷ drop (g + 1) (S .kinds)) where

@@ -22,6 +22,7 @@ use Rattle.layout.specs.Refusals.{first, _when_}
 use Rattle.layout.specs.Reading.{readings, pieceAt}
 use Rattle.layout.specs.Accepted.{ReadAccepted}
 use Rattle.layout.proofs.Fine.{well-formed}
+use Rattle.layout.proofs.Weights.{total-agreed}
 use Rattle.layout.proofs.LimitLaws.{limits-take, lowest-same, highest-same, allInRange-same, good-facts, counted-half, counted-piece}
 use Rattle.tables.proofs.Taken.{cut-taken}
 use Rattle.tables.proofs.Steps.{first-apart, known-sound, valued, positive}
@@ -32,7 +33,7 @@ use Rattle.rounding.specs.declared.Step.the-variants.{Whole}
 use Rattle.door.specs.Steps.{positiveZero, numberOf, wholeIn, isNotFinite, isOutside, stepsOf}
 use Rattle.door.specs.Door.{floats, roundedAll, stepAt, notFinites, outsides, doorNumber, readingFor, answerWith}
 use Rattle.door.proofs.Numbers.{door-refused, door-sound, table-small, not-finite-number, past-finite, back-below, back-above, back-agreed, refused-answer, done-answer}
-use Rattle.door.proofs.Wholes.{step-whole, rounded-inside, total-agreed}
+use Rattle.door.proofs.Wholes.{step-whole, rounded-inside}
 use Rattle.door.proofs.read_floats.Statement.{statement}
 use Rattle.door.proofs.read_floats.Tie as tie
 
@@ -222,7 +223,7 @@ returns-4 c =
     let same : piece (n p) ≡ pieceAt cumulus (t (d a)) at = sym (piece-is p) ∙ ap (λ z. cond (leZ z (cut cumulus (t (d a)))) low high) (state-is a 0 (omega arith)) in
     c .answered .ensures
     ∙ ap (answerWith 0 positiveZero)
-    (fun-ext (λ b. ap floatOf (total-agreed (w a) at (state-is a) (t (d a)) b (piece (n p)) ∙ ap (λ q. total (coefficient cumulus (t (d a)) b q) at) same)))
+    (fun-ext (λ b. ap floatOf (total-agreed cumulus (well-formed Cumulus .in-variables) (t (d a)) b (piece (n p)) (w a) at (state-is a) ∙ ap (λ q. total (coefficient cumulus (t (d a)) b q) at) same)))
     ∙ done-answer (t (d a)) (x (d a)) (nothing a)
 
 pub read-floats-spec : {M : Type 1} → statement M
