@@ -31,6 +31,11 @@ const FARTHEST: u64 = MOST as u64;
 // The cut of variable 0 stands between its lowest and its highest reading.
 const CUT: usize = 1;
 
+// The pieces, as they are counted.
+const LOW: usize = 0;
+
+const HIGH: usize = 1;
+
 // The first numbers of a model's table, as many as any model has limits: its own come first.
 pub struct Limits {
     pub model: Model,
@@ -265,13 +270,13 @@ impl Limits {
         DONE
     }
 
-    // The piece that a reading of variable 0 lies in: 0 is the low one, 1 the high one.
+    // The piece that a reading of variable 0 lies in.
     pub fn piece(self, x: i64) -> usize
         ensures { λ r. ⌜ r ≡ cond (leZ x (cut (shape (self .model)) (self .numbers))) 0 1 ⌝ }
     {
         if x <= self.at(CUT) {
-            return 0;
+            return LOW;
         }
-        1
+        HIGH
     }
 }
