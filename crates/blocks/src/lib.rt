@@ -30,15 +30,15 @@ pub fn coefficient_at(model: Model, table: &[i64], block: usize, piece: usize, s
     requires { ⌜ Valued (shape model) (now table) block piece (now state) ⌝ }
     ensures { λ r. ⌜ r ≡ total (coefficient (shape model) (now (table .entry)) block (pieceOf piece)) (readings (now (state .entry))) ⌝ }
 {
-    let own = model.kind(0);
-    let size = own.size();
-    let start = model.start(block);
+    let own = shapes::kind(model, 0);
+    let size = shapes::size(own);
+    let start = shapes::start(model, block);
     let mut at = start + PIECES * size;
     let mut sum = group_at(table, start + size * piece, size, own.u, own.v, state);
     let mut group: usize = PIECES;
-    while group < model.groups() {
-        let kind = model.kind(group);
-        let count = kind.size();
+    while group < shapes::groups(model) {
+        let kind = shapes::kind(model, group);
+        let count = shapes::size(kind);
         sum += group_at(table, at, count, kind.u, kind.v, state);
         at += count;
         group += 1;
@@ -125,15 +125,15 @@ pub fn move_block(
     requires { λ shift. ⌜ (now rows ≡ multipliedRows shift) × ((length (now out) ≡ length (now from)) × Shiftable (shape model) variable shift (now from)) ⌝ }
     ensures { λ shift r. ⌜ now (out .exit) ≡ movedBlock (shape model) variable shift (now (from .entry)) ⌝ }
 {
-    let own = model.kind(0);
-    let size = own.size();
+    let own = shapes::kind(model, 0);
+    let size = shapes::size(own);
     let mut at = PIECES * size;
     move_between(from, out, 0, size, own.u, own.v, variable, rows);
     move_between(from, out, size, at, own.u, own.v, variable, rows);
     let mut group: usize = PIECES;
-    while group < model.groups() {
-        let kind = model.kind(group);
-        let end = at + kind.size();
+    while group < shapes::groups(model) {
+        let kind = shapes::kind(model, group);
+        let end = at + shapes::size(kind);
         move_between(from, out, at, end, kind.u, kind.v, variable, rows);
         at = end;
         group += 1;

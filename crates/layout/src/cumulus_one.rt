@@ -1,10 +1,4 @@
 // The Cumulus One table: alpha, beta, xi, eta and zeta are its variables, and X, Y, Z, l, m and n its blocks.
-ghost use mathlib.Core.Path.{_≡_};
-ghost use Prim.Native.Nat.{_<_};
-ghost use lib.ListN.{length};
-ghost use Rattle.layout.specs.Shape.{cumulus, kindAt};
-use super::Kind;
-
 pub const VARIABLES: usize = 5;
 
 pub const BLOCKS: usize = 6;
@@ -26,27 +20,3 @@ pub const SIDE: usize = (SIDE_DEGREE + 1) * (SIDE_DEGREE + 2) / 2;
 pub const BLOCK: usize = 2 * PITCH + 2 * SIDE;
 
 pub const TABLE: usize = LIMITS + BLOCK * BLOCKS;
-
-// The groups of every block.
-pub fn kind(group: usize) -> Kind
-    requires { ⌜ group < length (cumulus .kinds) ⌝ }
-    ensures { λ r. ⌜ r ≡ kindAt cumulus group ⌝ }
-{
-    match group {
-        0 | 1 => Kind {
-            u: 0,
-            v: 3,
-            degree: PITCH_DEGREE,
-        },
-        2 => Kind {
-            u: 1,
-            v: 2,
-            degree: SIDE_DEGREE,
-        },
-        _ => Kind {
-            u: 1,
-            v: 4,
-            degree: SIDE_DEGREE,
-        },
-    }
-}

@@ -124,7 +124,7 @@ impl Limits {
         ensures { λ r. ⌜ r ≡ cond (ltb place (limitsLength (shape (self .model)))) (inRange (shape (self .model)) (self .numbers) place) true ⌝ }
     {
         let model = self.model;
-        (model.limits() <= place) | (whole::magnitude(self.at(place)) <= FARTHEST)
+        (shapes::limits(model) <= place) | (whole::magnitude(self.at(place)) <= FARTHEST)
     }
 
     // Whether each limit lies in -2000..2000.
@@ -147,7 +147,7 @@ impl Limits {
         ensures { λ r. ⌜ r ≡ cond (ltb variable (shape (self .model) .variables)) (inOrder (shape (self .model)) (self .numbers) variable) true ⌝ }
     {
         let model = self.model;
-        if variable >= model.variables() {
+        if variable >= shapes::variables(model) {
             return true;
         }
         self.lowest(variable) <= self.highest(variable)
@@ -258,12 +258,12 @@ impl Limits {
         let model = self.model;
         let mut i: usize = 0;
         while i < VARIABLES_ROOM {
-            if i >= model.variables() {
+            if i >= shapes::variables(model) {
                 return DONE;
             }
             let reading = state[i];
             if !self.inside(i, reading) {
-                return model.outside(i);
+                return shapes::outside(model, i);
             }
             i += 1;
         }

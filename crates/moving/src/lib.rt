@@ -74,7 +74,7 @@ fn write_limits(limits: Limits, out: &mut [i64])
 {
     let numbers = limits.numbers;
     let model = limits.model;
-    let count = model.limits();
+    let count = shapes::limits(model);
     let mut k: usize = 0;
     while k < count {
         let number = numbers[k];
@@ -111,11 +111,11 @@ fn write_moved(model: Model, table: &[i64], variable: usize, shift: i64, out: &m
     let limits = Limits::of(model, table).moved(variable, shift);
     write_limits(limits, out);
     let rows = multiplied_out(shift);
-    let size = model.block();
-    let blocks = model.blocks();
+    let size = shapes::block(model);
+    let blocks = shapes::blocks(model);
     let mut block: usize = 0;
     while block < blocks {
-        let start = model.start(block);
+        let start = shapes::start(model, block);
         let end = start + size;
         move_block(
             model,
@@ -134,13 +134,13 @@ pub fn move_datum(model: Model, table: &[i64], variable: usize, shift: i64, out:
     ensures number { λ r. ⌜ r ≡ moveNumber (shape model) (now (table .entry)) variable shift (now (out .entry)) ⌝ }
     ensures output { λ r. ⌜ now (out .exit) ≡ moveOutput (shape model) (now (table .entry)) variable shift (now (out .entry)) ⌝ }
 {
-    if table.len() != model.table() {
+    if table.len() != shapes::table(model) {
         return WRONG_TABLE;
     }
-    if out.len() != model.table() {
+    if out.len() != shapes::table(model) {
         return WRONG_OUTPUT;
     }
-    if variable >= model.variables() {
+    if variable >= shapes::variables(model) {
         return NO_VARIABLE;
     }
     let unsound = soundness(model, table);

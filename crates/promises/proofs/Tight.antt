@@ -31,7 +31,7 @@ use Rattle.answers.specs.declared.Fed.{Fed}
 use Rattle.whole.proofs as whole
 use Rattle.polynomials.proofs as polynomials
 use Rattle.shifting.proofs as shifting
-use Rattle.layout.proofs as layout
+use Rattle.shapes.proofs as shapes
 use Rattle.limits.proofs as limits
 use Rattle.weights.proofs as weights
 use Rattle.blocks.proofs as blocks
@@ -123,42 +123,36 @@ multiplied-out-tight κs a o p = tight o p (search same)
 pub move-group-tight : Tight shifting.move_group.ended shifting.move_group.Reads.Post
 move-group-tight κs a o p = tight o p (search same)
 
--- ════ layout
-pub kind-size-tight : Tight layout.Kind.size.ended layout.Kind.size.Reads.Post
-kind-size-tight κs a o p = tight o p (search same)
+-- ════ shapes
+pub shape-size-tight : Tight shapes.size.ended shapes.size.Reads.Post
+shape-size-tight κs a o p = tight o p (search same)
 
-pub model-variables-tight : Tight layout.Model.variables.ended layout.Model.variables.Reads.Post
-model-variables-tight κs a o p = tight o p (search same)
+pub shape-variables-tight : Tight shapes.variables.ended shapes.variables.Reads.Post
+shape-variables-tight κs a o p = tight o p (search same)
 
-pub model-blocks-tight : Tight layout.Model.blocks.ended layout.Model.blocks.Reads.Post
-model-blocks-tight κs a o p = tight o p (search same)
+pub shape-blocks-tight : Tight shapes.blocks.ended shapes.blocks.Reads.Post
+shape-blocks-tight κs a o p = tight o p (search same)
 
-pub model-groups-tight : Tight layout.Model.groups.ended layout.Model.groups.Reads.Post
-model-groups-tight κs a o p = tight o p (search same)
+pub shape-groups-tight : Tight shapes.groups.ended shapes.groups.Reads.Post
+shape-groups-tight κs a o p = tight o p (search same)
 
-pub model-limits-tight : Tight layout.Model.limits.ended layout.Model.limits.Reads.Post
-model-limits-tight κs a o p = tight o p (search same)
+pub shape-limits-tight : Tight shapes.limits.ended shapes.limits.Reads.Post
+shape-limits-tight κs a o p = tight o p (search same)
 
-pub model-block-tight : Tight layout.Model.block.ended layout.Model.block.Reads.Post
-model-block-tight κs a o p = tight o p (search same)
+pub shape-block-tight : Tight shapes.block.ended shapes.block.Reads.Post
+shape-block-tight κs a o p = tight o p (search same)
 
-pub model-table-tight : Tight layout.Model.table.ended layout.Model.table.Reads.Post
-model-table-tight κs a o p = tight o p (search same)
+pub shape-table-tight : Tight shapes.table.ended shapes.table.Reads.Post
+shape-table-tight κs a o p = tight o p (search same)
 
-pub model-start-tight : Tight layout.Model.start.ended layout.Model.start.Reads.Post
-model-start-tight κs a o p = tight o p (search same)
+pub shape-start-tight : Tight shapes.start.ended shapes.start.Reads.Post
+shape-start-tight κs a o p = tight o p (search same)
 
-pub model-outside-tight : Tight layout.Model.outside.ended layout.Model.outside.Reads.Post
-model-outside-tight κs a o p = tight o p (search same)
+pub shape-outside-tight : Tight shapes.outside.ended shapes.outside.Reads.Post
+shape-outside-tight κs a o p = tight o p (search same)
 
-pub model-kind-tight : Tight layout.Model.kind.ended layout.Model.kind.Reads.Post
-model-kind-tight κs a o p = tight o p (search same)
-
-pub cumulus-one-kind-tight : Tight layout.cumulus_one.kind.ended layout.cumulus_one.kind.Reads.Post
-cumulus-one-kind-tight κs a o p = tight o p (search same)
-
-pub gtm-longitudinal-kind-tight : Tight layout.gtm_longitudinal.kind.ended layout.gtm_longitudinal.kind.Reads.Post
-gtm-longitudinal-kind-tight κs a o p = tight o p (search same)
+pub shape-kind-tight : Tight shapes.kind.ended shapes.kind.Reads.Post
+shape-kind-tight κs a o p = tight o p (search same)
 
 -- ════ limits
 same-limits : {x y : Limits} {m : Model} {n : List ℤ} → (x .model ≡ m) × (x .numbers ≡ n) → (y .model ≡ m) × (y .numbers ≡ n) → x ≡ y

@@ -42,7 +42,7 @@ fn weight_of(table: &[i64], at: usize, kind: Kind, reaches: [Reach; REACHES_ROOM
 {
     let u = kind.u + 1;
     let v = kind.v + 1;
-    let end = at + kind.size();
+    let end = at + shapes::size(kind);
     weight_at(&table[at..end], kind.degree, reaches[u], reaches[v])
 }
 
@@ -51,12 +51,12 @@ fn shared(model: Model, table: &[i64], start: usize, reaches: [Reach; REACHES_RO
     requires { ⌜ Shareable (shape model) (now table) start reaches ⌝ }
     ensures { λ r. ⌜ r ≡ against (totalWeight (groups (shared (shape model)) (drop (sharedAt (shape model) start) (now (table .entry)))) (highIn reaches)) ⌝ }
 {
-    let own = model.kind(0);
-    let mut at = start + PIECES * own.size();
+    let own = shapes::kind(model, 0);
+    let mut at = start + PIECES * shapes::size(own);
     let mut sum: u64 = 0;
     let mut group: usize = PIECES;
-    while group < model.groups() {
-        let kind = model.kind(group);
+    while group < shapes::groups(model) {
+        let kind = shapes::kind(model, group);
         let Weighed::Within(more) = weight_of(table, at, kind, reaches) else {
             return Weighed::Passed;
         };
@@ -64,7 +64,7 @@ fn shared(model: Model, table: &[i64], start: usize, reaches: [Reach; REACHES_RO
             return Weighed::Passed;
         }
         sum += more;
-        at += kind.size();
+        at += shapes::size(kind);
         group += 1;
     }
     Weighed::Within(sum)
@@ -77,16 +77,16 @@ pub fn within_cap(model: Model, table: &[i64], sizes: [u64; REACHES_ROOM]) -> bo
     ensures { λ r. ⌜ r ≡ withinCap (shape model) (now (table .entry)) (reachesOf sizes) ⌝ }
 {
     let reaches = all_reaches(sizes);
-    let own = model.kind(0);
-    let size = own.size();
+    let own = shapes::kind(model, 0);
+    let size = shapes::size(own);
     let degree = own.degree;
     let rows = degree + 1;
     let second = own.v + 1;
     let v = reaches[second];
-    let blocks = model.blocks();
+    let blocks = shapes::blocks(model);
     let mut ok = true;
     'blocks: for block in 0..blocks {
-        let start = model.start(block);
+        let start = shapes::start(model, block);
         let Weighed::Within(both) = shared(model, table, start, reaches) else {
             ok = false;
             break 'blocks;

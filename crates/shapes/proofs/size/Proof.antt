@@ -1,4 +1,4 @@
--- `layout::Kind::size` meets its contract: half of a number times the next. Assumes nothing.
+-- `shapes::size` meets its contract: half of a number times the next. Assumes nothing.
 use mathlib.Core.Path.{_∙_, ap}
 use Prim.Native.Nat.{ℕ, _+_, _*_, _≤_}
 use native.Mathlib.Nat as N
@@ -8,8 +8,8 @@ use Rattle.polynomials.specs.Order.{below}
 use Rattle.polynomials.specs.Limits.{highestDegree}
 use Rattle.polynomials.proofs.Places.{below-is}
 use borrow.Author.Needs.{needs}
-use Rattle.layout.proofs.Kind.size.Statement.{statement}
-use Rattle.layout.proofs.Kind.size.Tie as tie
+use Rattle.shapes.proofs.size.Statement.{statement}
+use Rattle.shapes.proofs.size.Tie as tie
 
 most : (d : ℕ) → d ≤ highestDegree → (d + 1) * (d + 1 + 1) ≤ (highestDegree + 1) * (highestDegree + 2)
 most d h =
@@ -24,10 +24,10 @@ add-result : tie.Need-add-result
 add-result c = search needs
 
 mul-result : tie.Need-mul-result
-mul-result c = record { fits = omega (arith, most (c .before .args .self .degree) (c .before .pre)) }
+mul-result c = record { fits = omega (arith, most (c .before .args .kind .degree) (c .before .pre)) }
 
 returns : tie.Need-returns
-returns c = let d = c .before .args .self .degree in below-is (d + 1) ∙ ap below (add-one d)
+returns c = let d = c .before .args .kind .degree in below-is (d + 1) ∙ ap below (add-one d)
 
 pub size-spec : {M : Type 1} → statement M
 size-spec = tie.close (tie.spec add-n add-result mul-result returns)

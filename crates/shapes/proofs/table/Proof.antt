@@ -1,9 +1,9 @@
--- `layout::Model::table` meets its contract: the numbers of each model. Assumes nothing.
+-- `shapes::table` meets its contract: the numbers of each model. Assumes nothing.
 use Rattle.polynomials.specs.Order.{below}
 use Rattle.layout.specs.Shape.{kindsLength}
 use borrow.Author.Needs.{needs}
-use Rattle.layout.proofs.Model.table.Statement.{statement}
-use Rattle.layout.proofs.Model.table.Tie as tie
+use Rattle.shapes.proofs.table.Statement.{statement}
+use Rattle.shapes.proofs.table.Tie as tie
 
 enum-told : tie.Need-enum-told
 enum-told c = search needs

@@ -1,17 +1,17 @@
--- `layout::Model::outside` meets its contract: the names of each model's variables. Assumes nothing.
+-- `shapes::outside` meets its contract: the names of each model's variables. Assumes nothing.
 use mathlib.Core.Path.{sym, ap}
 use Prim.Native.Nat.{_<_}
 use native.Mathlib.Omega.{arith}
 use Rattle.layout.specs.Shape.{shape}
 use Rattle.layout.specs.Numbers.{variablesRoom}
 use Rattle.layout.specs.Refusals.{outside}
 use Rattle.layout.proofs.Fine.{few-variables}
 use borrow.Author.Needs.{needs}
-use Rattle.layout.proofs.Model.outside.Statement.{statement}
-use Rattle.layout.proofs.Model.outside.Tie as tie
+use Rattle.shapes.proofs.outside.Statement.{statement}
+use Rattle.shapes.proofs.outside.Tie as tie
 
 few : (c : tie.Start) → c .args .variable < variablesRoom
-few c = omega (arith, few-variables (c .args .self), c .pre)
+few c = omega (arith, few-variables (c .args .model), c .pre)
 
 enum-told : tie.Need-enum-told
 enum-told c = search needs

@@ -1,9 +1,9 @@
--- `layout::Model::block` meets its contract: the numbers of each model. Assumes nothing.
+-- `shapes::block` meets its contract: the numbers of each model. Assumes nothing.
 use Rattle.polynomials.specs.Order.{below}
 use Rattle.layout.specs.Shape.{kindsLength}
 use borrow.Author.Needs.{needs}
-use Rattle.layout.proofs.Model.block.Statement.{statement}
-use Rattle.layout.proofs.Model.block.Tie as tie
+use Rattle.shapes.proofs.block.Statement.{statement}
+use Rattle.shapes.proofs.block.Tie as tie
 
 enum-told : tie.Need-enum-told
 enum-told c = search needs

@@ -1,11 +1,11 @@
--- `layout::cumulus_one::kind` meets its contract, group by group. Assumes nothing.
+-- `shapes::cumulus_kind` meets its contract, group by group. Assumes nothing.
 use mathlib.Core.Path.{_≡_, refl, ap}
 use Prim.Native.Nat.{ℕ, zero, suc, _≤_, _<_}
 use native.Mathlib.Omega.{arith}
 use lib.ListN.{length}
 use Rattle.layout.specs.Shape.{cumulus, kindAt, own}
-use Rattle.layout.proofs.cumulus_one.kind.Statement.{statement}
-use Rattle.layout.proofs.cumulus_one.kind.Tie as tie
+use Rattle.shapes.proofs.cumulus_kind.Statement.{statement}
+use Rattle.shapes.proofs.cumulus_kind.Tie as tie
 
 -- the first two are alike
 pitch : (g : ℕ) → g < 2 → own cumulus ≡ kindAt cumulus g
@@ -25,5 +25,5 @@ returns-2 c = pitch (c .before .before .args .group) (c .if1 .taken)
 returns-3 : tie.Need-returns-3
 returns-3 c = last (c .before .before .args .group) (c .before .match .rest .1) (c .if1 .left) (c .before .before .pre)
 
-pub kind-spec : {M : Type 1} → statement M
-kind-spec = tie.close (tie.spec returns returns-2 returns-3)
+pub cumulus-kind-spec : {M : Type 1} → statement M
+cumulus-kind-spec = tie.close (tie.spec returns returns-2 returns-3)
