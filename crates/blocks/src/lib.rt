@@ -47,7 +47,7 @@ pub fn coefficient_at(model: Model, table: &[i64], block: usize, piece: usize, s
 }
 
 // The numbers as they are.
-fn copy(from: &[i64], out: &mut [i64])
+pub fn copy(from: &[i64], out: &mut [i64])
     requires { ⌜ length (now out) ≡ length (now from) ⌝ }
     ensures { λ r. ⌜ now (out .exit) ≡ now (from .entry) ⌝ }
 {

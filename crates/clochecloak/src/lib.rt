@@ -4,15 +4,16 @@ ghost use mathlib.Core.List.{[], _∷_};
 ghost use Rattle.layout.specs.Shape.{cumulus};
 ghost use Rattle.layout.specs.Reading.{readings, readNumber, readOutput};
 ghost use Rattle.layout.specs.Moving.{moveNumber, moveOutput};
-ghost use Rattle.cumulus.specs.Published.{publishNumber, publishOutput};
+ghost use Rattle.layout.specs.Publishing.{publishNumber, publishOutput};
+ghost use Rattle.cumulus.specs.Published.{published};
 ghost use Rattle.microradians.specs.Answer.{fineNumber, fineOutput};
 ghost use Rattle.door.specs.Door.{floats, doorAnswer};
 use door::Answer;
 
 #[no_mangle]
 pub extern "C" fn clochecloak_publish(out: &mut [i64]) -> u64
-    ensures number { λ r. ⌜ r ≡ publishNumber (now (out .entry)) ⌝ }
-    ensures output { λ r. ⌜ now (out .exit) ≡ publishOutput (now (out .entry)) ⌝ }
+    ensures number { λ r. ⌜ r ≡ publishNumber published (now (out .entry)) ⌝ }
+    ensures output { λ r. ⌜ now (out .exit) ≡ publishOutput published (now (out .entry)) ⌝ }
 {
     cumulus::publish(out)
 }

@@ -12,14 +12,18 @@ use lib.Dec.{leb}
 use lib.IntN.{ℤ, pos, _+ℤ_, _*ℤ_, pow}
 use lib.Signed.{leZ, _≤ℤ_}
 use Rattle.whole.proofs.Identity.{quote, quote-pos, by, ring1, ring4, ring5}
+use Rattle.polynomials.specs.Numbers.{nats}
+use Rattle.polynomials.specs.Sum.{sum}
 use Rattle.whole.proofs.Linear.{zarith}
 use Rattle.whole.proofs.Ring.{*ℤ-assoc, pow-zero, pow-suc, pow-add, pow-mul}
 use Rattle.polynomials.proofs.Semiring.{whole, nil-mul, add-mul}
 use Rattle.layout.specs.Shape.{cumulus}
 use Rattle.layout.specs.Limits.{every}
 use Rattle.layout.proofs.Tests.{&&-left, &&-right, every-all, true-iff, leZ-fact, fact-leZ}
-use Rattle.cumulus.specs.Notation.{Monomial, Term, Polynomial}
-use Rattle.cumulus.specs.Model.{Coefficient, coefficientAt, Angles, milliradians, microradians, totalDegree, monomialAt, scaleIn, scaled, at, pre, post, modelValue, fineValue}
+use Rattle.printed.specs.Notation.{Monomial, Term, Polynomial}
+use Rattle.printed.specs.Values.{Angles, totalDegree, degreeIn, monomialAt, scaleIn, scaled, at}
+use Rattle.printed.proofs.Monomials.{product-multiple}
+use Rattle.cumulus.specs.Model.{Coefficient, coefficientAt, milliradians, microradians, pre, post, modelValue, fineValue}
 
 -- each term has a total degree of at most 4
 abbrev quartic : Polynomial → Bool
@@ -27,17 +31,14 @@ quartic [] = true
 quartic (t ∷ f) = leb (totalDegree (t .monomial)) 4 && quartic f
 
 -- ════ a monomial
-swap : (a b c d : ℤ) → (a *ℤ b) *ℤ (c *ℤ d) ≡ (a *ℤ c) *ℤ (b *ℤ d)
-swap a b c d = ring4 a b c d (λ ρ e f g h. simp (quote, e, f, g, h) (by _ _ _ tt))
-
--- one variable more
-joined : (s z y : ℤ) (m n : ℕ) {a : ℤ} → a ≡ pow s m *ℤ z → a *ℤ pow (s *ℤ y) n ≡ pow s (m + n) *ℤ (z *ℤ pow y n)
-joined s z y m n e = ap₂ _*ℤ_ e (pow-mul s y n) ∙ swap (pow s m) z (pow s n) (pow y n) ∙ ap (λ w. w *ℤ (z *ℤ pow y n)) (sym (pow-add s m n))
+-- every angle is a variable
+degrees-sum : (a : Monomial) → sum nats (cumulus .variables) (degreeIn cumulus a) ≡ totalDegree a
+unfolding sum
+degrees-sum a = omega arith
 
 module _ (s : ℤ) (x : ℕ → ℤ) where
-  monomial-finer : (a : Monomial) → monomialAt a (λ i. s *ℤ x i) ≡ pow s (totalDegree a) *ℤ monomialAt a x
-  monomial-finer a =
-      joined s _ (x 4) _ (a .zeta) (joined s _ (x 3) _ (a .eta) (joined s _ (x 2) _ (a .xi) (joined s _ (x 1) _ (a .beta) (pow-mul s (x 0) (a .alpha)))))
+  monomial-finer : (a : Monomial) → monomialAt cumulus a (λ i. s *ℤ x i) ≡ pow s (totalDegree a) *ℤ monomialAt cumulus a x
+  monomial-finer a = product-multiple s x (degreeIn cumulus a) (cumulus .variables) ∙ ap (λ n. pow s n *ℤ monomialAt cumulus a x) (degrees-sum a)
 
 -- ════ a polynomial
 pos-pow : (s n : ℕ) → pow (pos s) n ≡ pos (s ^ n)
@@ -61,34 +62,34 @@ module _ (A B : Angles) (s : ℕ) (finer : B .radian ≡ A .radian * s) (x : ℕ
   behind : (c r p m : ℤ) → c *ℤ (r *ℤ p) *ℤ m ≡ c *ℤ r *ℤ m *ℤ p
   behind c r p m = ring4 c r p m (λ ρ e f g h. simp (quote, e, f, g, h) (by _ _ _ tt))
 
-  term-finer : (t : Term) → totalDegree (t .monomial) ≤ 4 → scaled B t *ℤ monomialAt (t .monomial) finely ≡ scaled A t *ℤ monomialAt (t .monomial) x *ℤ pos (s ^ 4)
+  term-finer : (t : Term) → totalDegree (t .monomial) ≤ 4 → scaled B t *ℤ monomialAt cumulus (t .monomial) finely ≡ scaled A t *ℤ monomialAt cumulus (t .monomial) x *ℤ pos (s ^ 4)
   term-finer t h =
       let a = t .monomial in
       let n = totalDegree a in
-      ap (λ z. scaled B t *ℤ z) (monomial-finer (pos s) x a ∙ ap (λ z. z *ℤ monomialAt a x) (pos-pow s n))
-      ∙ apart (t .number) (pos (scaleIn B n)) (pos (s ^ n)) (monomialAt a x)
-      ∙ ap (λ z. t .number *ℤ z *ℤ monomialAt a x) (scale-finer n h)
-      ∙ behind (t .number) (pos (scaleIn A n)) (pos (s ^ 4)) (monomialAt a x)
+      ap (λ z. scaled B t *ℤ z) (monomial-finer (pos s) x a ∙ ap (λ z. z *ℤ monomialAt cumulus a x) (pos-pow s n))
+      ∙ apart (t .number) (pos (scaleIn B n)) (pos (s ^ n)) (monomialAt cumulus a x)
+      ∙ ap (λ z. t .number *ℤ z *ℤ monomialAt cumulus a x) (scale-finer n h)
+      ∙ behind (t .number) (pos (scaleIn A n)) (pos (s ^ 4)) (monomialAt cumulus a x)
 
-  pub at-finer : (f : Polynomial) → quartic f ≡ true → at B f finely ≡ at A f x *ℤ pos (s ^ 4)
+  pub at-finer : (f : Polynomial) → quartic f ≡ true → at cumulus B f finely ≡ at cumulus A f x *ℤ pos (s ^ 4)
   unfolding at
   at-finer [] q = sym (nil-mul whole (pos (s ^ 4)))
   at-finer (t ∷ f) q =
       let d = leb (totalDegree (t .monomial)) 4 in
       ap₂ _+ℤ_ (term-finer t (leb-true (totalDegree (t .monomial)) 4 (&&-left d (quartic f) q))) (at-finer f (&&-right d (quartic f) q))
-      ∙ sym (add-mul whole (scaled A t *ℤ monomialAt (t .monomial) x) (at A f x) (pos (s ^ 4)))
+      ∙ sym (add-mul whole (scaled A t *ℤ monomialAt cumulus (t .monomial) x) (at cumulus A f x) (pos (s ^ 4)))
 
   -- (3) and (4)
   four : (a b c d k : ℤ) → a *ℤ k +ℤ b *ℤ k +ℤ c *ℤ k +ℤ d *ℤ k ≡ (a +ℤ b +ℤ c +ℤ d) *ℤ k
   four a b c d k = ring5 a b c d k (λ ρ e f g h i. simp (quote, e, f, g, h, i) (by _ _ _ tt))
 
   four-finer : (a b c d : Polynomial) → (quartic a && quartic b) && (quartic c && quartic d) ≡ true
-      → at B a finely +ℤ at B b finely +ℤ at B c finely +ℤ at B d finely ≡ (at A a x +ℤ at A b x +ℤ at A c x +ℤ at A d x) *ℤ pos (s ^ 4)
+      → at cumulus B a finely +ℤ at cumulus B b finely +ℤ at cumulus B c finely +ℤ at cumulus B d finely ≡ (at cumulus A a x +ℤ at cumulus A b x +ℤ at cumulus A c x +ℤ at cumulus A d x) *ℤ pos (s ^ 4)
   four-finer a b c d q =
       let l = &&-left (quartic a && quartic b) (quartic c && quartic d) q in
       let r = &&-right (quartic a && quartic b) (quartic c && quartic d) q in
       ap₂ _+ℤ_ (ap₂ _+ℤ_ (ap₂ _+ℤ_ (at-finer a (&&-left (quartic a) (quartic b) l)) (at-finer b (&&-right (quartic a) (quartic b) l))) (at-finer c (&&-left (quartic c) (quartic d) r))) (at-finer d (&&-right (quartic c) (quartic d) r))
-      ∙ four (at A a x) (at A b x) (at A c x) (at A d x) (pos (s ^ 4))
+      ∙ four (at cumulus A a x) (at cumulus A b x) (at cumulus A c x) (at cumulus A d x) (pos (s ^ 4))
 
 -- ════ the six coefficients, at 1000 times whole milliradians
 -- all that (3) and (4) have

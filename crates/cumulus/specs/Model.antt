@@ -1,11 +1,13 @@
 -- The printed model: the report's equations (1), (3) and (4) over (5) to (38), at whole readings in any unit of angle.
 use mathlib.Core.Bool.{cond}
 use mathlib.Core.List.{List, [], _∷_}
-use Prim.Native.Nat.{ℕ, _+_, _-_, _^_}
-use lib.IntN.{ℤ, pos, _+ℤ_, _*ℤ_, pow}
+use Prim.Native.Nat.{ℕ}
+use lib.IntN.{ℤ, pos, _+ℤ_}
 use lib.ListN.{getD}
 use lib.Signed.{leZ}
-use Rattle.cumulus.specs.Notation.{Monomial, Term, Polynomial, summed}
+use Rattle.layout.specs.Shape.{cumulus}
+use Rattle.printed.specs.Notation.{Polynomial, _⊕_}
+use Rattle.printed.specs.Values.{Angles, scaleIn, at}
 use Rattle.cumulus.specs.Printed.{C-Xα-pre, C-Yα-pre, C-Zα-pre, C-lα-pre, C-mα-pre, C-nα-pre, C-Xη-pre, C-Yη-pre, C-Zη-pre, C-lη-pre, C-mη-pre, C-nη-pre, C-Xα-post, C-Yα-post, C-Zα-post, C-lα-post, C-mα-post, C-nα-post, C-Xη-post, C-Yη-post, C-Zη-post, C-lη-post, C-mη-post, C-nη-post, C-Xξ, C-Yξ, C-Zξ, C-lξ, C-mξ, C-nξ, C-Xζ, C-Yζ, C-Zζ, C-lζ, C-mζ, C-nζ}
 
 -- ════ the six coefficients
@@ -42,44 +44,26 @@ coefficients = C-X ∷ C-Y ∷ C-Z ∷ C-l ∷ C-m ∷ C-n ∷ []
 abbrev pub coefficientAt : ℕ → Coefficient
 coefficientAt b = getD coefficients b C-n
 
--- ════ their values
--- in what angles are counted: how many make a radian, and the last of the low piece, by the boundary 17.949° of (2)
-pub record Angles : Type 0 where
-  pub radian : ℕ
-  pub cut : ℕ
+-- its polynomials by the groups of a block: low and high in α and η, then in β and ξ and in β and ζ
+abbrev pub parts : Coefficient → List Polynomial
+parts C = (C .α-pre ⊕ C .η-pre) ∷ (C .α-post ⊕ C .η-post) ∷ C .ξ ∷ C .ζ ∷ []
 
+-- ════ their values: x has the readings of α, β, ξ, η and ζ, in this order, from 0 to 4
+-- the last of the low piece is by the boundary 17.949° of (2)
 abbrev pub milliradians : Angles
 milliradians = record { radian = 1000; cut = 313 }
 
 abbrev pub microradians : Angles
 microradians = record { radian = 1_000_000; cut = 313_269 }
 
-abbrev pub totalDegree : Monomial → ℕ
-totalDegree a = a .alpha + a .beta + a .xi + a .eta + a .zeta
-
--- x has the readings of α, β, ξ, η and ζ, in this order, from 0 to 4
-abbrev pub monomialAt : Monomial → (ℕ → ℤ) → ℤ
-monomialAt a x = pow (x 0) (a .alpha) *ℤ pow (x 1) (a .beta) *ℤ pow (x 2) (a .xi) *ℤ pow (x 3) (a .eta) *ℤ pow (x 4) (a .zeta)
-
 module _ (A : Angles) where
-  -- what a number of degree n is scaled by. Each of its n readings is so many times what it is in radians; the unit is 10⁻⁵ over the fourth power
-  abbrev pub scaleIn : ℕ → ℕ
-  scaleIn n = A .radian ^ (4 - n)
-
-  abbrev pub scaled : Term → ℤ
-  scaled t = t .number *ℤ pos (scaleIn (totalDegree (t .monomial)))
-
-  -- the sum of the terms: each number, scaled, times the powers of the readings
-  unfoldable pub at : Polynomial → (ℕ → ℤ) → ℤ
-  at f x = summed (λ t. scaled t *ℤ monomialAt (t .monomial) x) f
-
   -- (3)
   abbrev pub pre : Coefficient → (ℕ → ℤ) → ℤ
-  pre C x = at (C .α-pre) x +ℤ at (C .ξ) x +ℤ at (C .η-pre) x +ℤ at (C .ζ) x
+  pre C x = at cumulus A (C .α-pre) x +ℤ at cumulus A (C .ξ) x +ℤ at cumulus A (C .η-pre) x +ℤ at cumulus A (C .ζ) x
 
   -- (4)
   abbrev pub post : Coefficient → (ℕ → ℤ) → ℤ
-  post C x = at (C .α-post) x +ℤ at (C .ξ) x +ℤ at (C .η-post) x +ℤ at (C .ζ) x
+  post C x = at cumulus A (C .α-post) x +ℤ at cumulus A (C .ξ) x +ℤ at cumulus A (C .η-post) x +ℤ at cumulus A (C .ζ) x
 
   -- (1)
   abbrev pub valueIn : Coefficient → (ℕ → ℤ) → ℤ

@@ -18,6 +18,7 @@ use Rattle.layout.specs.Blocks.{low, high, block, groups, laidOut, chose
 use Rattle.layout.specs.Sound.{reach, withinCap, light, sound}
 use Rattle.layout.specs.Reaches.{listedReaches, reachesOf}
 use Rattle.layout.specs.Refusals.{outside, first}
+use Rattle.layout.specs.Publishing.{publishNumber, publishOutput}
 use Rattle.layout.specs.Reading.{readings, inside, values, readNumber, readOutput}
 use Rattle.layout.specs.Moving.{owner, joined, movedLimit, movedLimits, movedBlock, movedTable, moveNumber, moveOutput}
 
@@ -254,6 +255,15 @@ read-output = refl
 move-output : map (λ i. getD (moveOutput smallShape table i (pos 4) (replicate 19 (pos 8))) 0 (pos 0)) (0 ∷ 2 ∷ []) ≡ negℤ (pos 14) ∷ pos 8 ∷ []
 unfolding sum listed powers below choose number term evaluated given movedNumber replaced totalWeight movedGroup longer kindsLength every allInRange good groups laidOut chosen coefficient withinCap first movedLimit movedLimits movedBlock joined movedTable moveNumber moveOutput pow one
 move-output = refl
+
+-- ════ publishing: with room for one number fewer, as many, and one more
+publish-controls : map (publishNumber (pos 1 ∷ pos 2 ∷ [])) (replicate 1 (pos 8) ∷ replicate 2 (pos 8) ∷ replicate 3 (pos 8) ∷ []) ≡ 2 ∷ 0 ∷ 2 ∷ []
+unfolding publishNumber first
+publish-controls = refl
+
+publish-outputs : map (publishOutput (pos 1 ∷ pos 2 ∷ [])) (replicate 1 (pos 8) ∷ replicate 2 (pos 8) ∷ replicate 3 (pos 8) ∷ []) ≡ (pos 8 ∷ []) ∷ (pos 1 ∷ pos 2 ∷ []) ∷ (pos 8 ∷ pos 8 ∷ pos 8 ∷ []) ∷ []
+unfolding publishNumber publishOutput first
+publish-outputs = refl
 
 -- ════ the GTM's shape: alpha and eta, and three blocks
 gtm-lengths : limitsLength gtm ∷ blockLength gtm ∷ tableLength gtm ∷ [] ≡ 5 ∷ 20 ∷ 65 ∷ []

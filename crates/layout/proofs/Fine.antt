@@ -2,21 +2,21 @@
 --   well-formed   a variable 0, groups in variables of the shape, and names
 --   Fine          groups of a degree that the code knows, each in two variables, with fine-drop: those that are left, and fine-at: one of them
 --   Split         the low and the high group are alike, in variable 0 and another, and those after them are in other variables
---   two-groups, own-fine   there is an own group, and it is such a group
+--   own-twice, two-groups, own-fine   the first two groups are one kind, the own group, and it is such a group
 --   inside        every block lies in the table
---   few-variables, few-limits, few-table, few-block, some-table   how many there are at most, and at least
-use mathlib.Core.Path.{_≡_, refl, subst}
+--   few-variables, few-limits, few-table, few-block, some-block, some-table   how many there are at most, and at least
+use mathlib.Core.Path.{_≡_, refl, sym, ap, subst}
 use mathlib.Core.List.{List, [], _∷_}
 use Prim.Native.Nat.{ℕ, zero, suc, _+_, _*_, _≤_, _<_}
 use native.Mathlib.Nat as N
 use native.Mathlib.Omega.{arith}
-use lib.ListN.{length, drop}
+use lib.ListN.{length, getD, drop}
 use Rattle.polynomials.specs.Order.{below}
 use Rattle.polynomials.specs.Limits.{highestDegree}
 use Rattle.layout.specs.declared.Kind.{Kind}
 use Rattle.layout.specs.declared.Model.{Model}
 use Rattle.layout.specs.declared.Model.the-variants.{Cumulus, Gtm}
-use Rattle.layout.specs.Shape.{Shape, WellFormed, limitsLength, kindsLength, blockLength, blockStart, tableLength, cumulus, gtm, shape, own, shared}
+use Rattle.layout.specs.Shape.{Shape, WellFormed, limitsLength, kindsLength, blockLength, blockStart, tableLength, cumulus, gtm, shape, kindAt, own, shared}
 use Rattle.layout.specs.Numbers.{tableSize, variablesRoom, limitsRoom}
 
 pub well-formed : (m : Model) → WellFormed (shape m)
@@ -77,14 +77,18 @@ split Cumulus =
     }
 split Gtm = record { kinds = refl; first = refl; second = omega arith; beside = tt }
 
+-- the first two groups of a block are one kind
+pub own-twice : (m : Model) (g : ℕ) → g < 2 → own (shape m) ≡ kindAt (shape m) g
+own-twice m zero h = refl
+own-twice m (suc zero) h = sym (ap (λ ks. getD ks 1 (record { u = 0; v = 0; degree = 0 })) (split m .kinds))
+own-twice m (suc (suc g)) h = absurd (omega arith)
+
 pub two-groups : (m : Model) → 2 ≤ length (shape m .kinds)
-two-groups Cumulus = omega arith
-two-groups Gtm = omega arith
+two-groups m = rw (split m .kinds) (omega arith)
 
 pub own-fine : (m : Model) → FineKind (shape m .variables) (own (shape m))
 unfolding Fine
-own-fine Cumulus = fine Cumulus .0
-own-fine Gtm = fine Gtm .0
+own-fine m = subst (Fine (shape m .variables)) (split m .kinds) (fine m) .0
 
 -- ════ how many
 pub inside : (S : Shape) (b : ℕ) → b < S .blocks → blockStart S b + blockLength S ≤ tableLength S
@@ -107,6 +111,11 @@ pub few-block : (m : Model) → blockLength (shape m) ≤ tableSize
 unfolding kindsLength below
 few-block Cumulus = omega arith
 few-block Gtm = omega arith
+
+pub some-block : (m : Model) → 0 < blockLength (shape m)
+unfolding kindsLength below
+some-block Cumulus = omega arith
+some-block Gtm = omega arith
 
 -- a table has more numbers than the room for its limits
 pub some-table : (m : Model) → limitsRoom ≤ tableLength (shape m)

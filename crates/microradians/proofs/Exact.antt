@@ -38,19 +38,21 @@ use Rattle.layout.specs.Sound.{reach}
 use Rattle.layout.proofs.Tests.{every-all}
 use Rattle.layout.proofs.Fine.{well-formed}
 use Rattle.layout.specs.declared.Model.the-variants.{Cumulus}
-use Rattle.cumulus.specs.Notation.{Polynomial}
-use Rattle.cumulus.specs.Model.{Coefficient, coefficientAt, microradians, scaleIn, pre, post, fineValue}
-use Rattle.cumulus.specs.Stored.{degree, printedAt, group, byKind, parts, eachBelongs}
-use Rattle.cumulus.proofs.Model.{equation, all-hold, held-total, own-variables}
+use Rattle.printed.specs.Notation.{Polynomial}
+use Rattle.printed.specs.Values.{scaleIn, together}
+use Rattle.cumulus.specs.Model.{Coefficient, coefficientAt, microradians, pre, post, fineValue, parts}
+use Rattle.printed.specs.Stored.{degree, printedAt, group, byKind, eachBelongs}
+use Rattle.cumulus.proofs.Model.{equation, held-equation, own-variables}
+use Rattle.printed.proofs.Answers.{all-hold}
 use Rattle.microradians.specs.Fixed.{perPrinted, _⊛_, inFixedPoint}
-use Rattle.microradians.specs.Answer.{fineLimits, together, answerIn, fineNumber, fineOutput}
+use Rattle.microradians.specs.Answer.{fineLimits, answerIn, fineNumber, fineOutput}
 use Rattle.microradians.proofs.Answers.{number-given, within-reach, reach-near}
 use Rattle.microradians.proofs.Off.{M, Off, off-+, off-nil}
 use Rattle.microradians.proofs.Slack.{silent, slack, groupSlack, exactly, downward-off, products, multiplications, counted}
 
 -- ════ one group
 abbrev pub printedOf : Kind → Polynomial → ℕ → ℕ → ℤ
-printedOf k f p q = printedAt k f (place p q)
+printedOf k f p q = printedAt cumulus k f (place p q)
 
 -- what it is off by at most, at reaches ρ
 abbrev pub slackOf : (ℕ → ℕ) → Kind → Polynomial → ℕ
@@ -58,21 +60,21 @@ slackOf ρ k f = groupSlack (printedOf k f) (k .degree) highestDegree (ρ (k .u)
 
 module _ (k : Kind) (f : Polynomial) (x : ℕ → ℤ) (ρ : ℕ → ℕ) (d : k .degree ≤ highestDegree) (hu : natAbs (x (k .u)) ≤ ρ (k .u)) (hv : natAbs (x (k .v)) ≤ ρ (k .v)) where
   abbrev numbers : List ℤ
-  numbers = group (scaleIn microradians) k f .numbers
+  numbers = group cumulus (scaleIn microradians) k f .numbers
 
   number-is : (p q : ℕ) → p + q ≤ k .degree → exactly (printedOf k f) (k .degree) highestDegree p q ≡ number ints numbers p q
   unfolding number
   number-is p q l =
       sym
-      (getD-listed (size (k .degree)) (λ i. printedAt k f i *ℤ pos (scaleIn microradians (degree (powers i)))) (place p q) (pos 0) (place-below (suc (k .degree)) p q (omega arith))
-      ∙ ap₂ (λ a b. printedAt k f (place p q) *ℤ pos (scaleIn microradians (a + b))) (powers-place p q .0) (powers-place p q .1))
+      (getD-listed (size (k .degree)) (λ i. printedAt cumulus k f i *ℤ pos (scaleIn microradians (degree (powers i)))) (place p q) (pos 0) (place-below (suc (k .degree)) p q (omega arith))
+      ∙ ap₂ (λ a b. printedAt cumulus k f (place p q) *ℤ pos (scaleIn microradians (a + b))) (powers-place p q .0) (powers-place p q .1))
 
-  exact-is : downward ints _*ℤ_ (k .degree) (exactly (printedOf k f) (k .degree) highestDegree) (x (k .u)) (x (k .v)) ≡ valueOf (group (scaleIn microradians) k f) x
+  exact-is : downward ints _*ℤ_ (k .degree) (exactly (printedOf k f) (k .degree) highestDegree) (x (k .u)) (x (k .v)) ≡ valueOf (group cumulus (scaleIn microradians) k f) x
   exact-is =
       downward-ext ints _*ℤ_ (k .degree) _ (number ints numbers) (x (k .u)) (x (k .v)) number-is
       ∙ downward-value whole (k .degree) numbers (N.le-of-eq (length-listed (size (k .degree)) _)) (x (k .u)) (x (k .v))
 
-  pub group-off : Off (M ^ highestDegree) (slackOf ρ k f) (inFixedPoint x k f) (valueOf (group (scaleIn microradians) k f) x)
+  pub group-off : Off (M ^ highestDegree) (slackOf ρ k f) (inFixedPoint x k f) (valueOf (group cumulus (scaleIn microradians) k f) x)
   group-off = rw exact-is at (downward-off (printedOf k f) (k .degree) highestDegree (x (k .u)) (x (k .v)) (ρ (k .u)) (ρ (k .v)) hu hv d)
 
 -- ════ the groups that count in a piece
@@ -88,15 +90,15 @@ slacks ρ p g (k ∷ ks) (f ∷ fs) = cond (counts g p) (slackOf ρ k f) 0 + sla
 
 module _ (n : ℕ) (x : ℕ → ℤ) (ρ : ℕ → ℕ) (h : (i : ℕ) → i < n → natAbs (x i) ≤ ρ i) (p : Piece) where
   kinds-off : (g : ℕ) (ks : List Kind) (fs : List Polynomial) → InVariables n ks → Low ks
-      → Off (M ^ highestDegree) (slacks ρ p g ks fs) (together p g (byKind (inFixedPoint x) ks fs)) (total (chosen p g (byKind (group (scaleIn microradians)) ks fs)) x)
+      → Off (M ^ highestDegree) (slacks ρ p g ks fs) (together p g (byKind (inFixedPoint x) ks fs)) (total (chosen p g (byKind (group cumulus (scaleIn microradians)) ks fs)) x)
   unfolding chosen total
   kinds-off g [] fs v l = off-nil _ refl refl
   kinds-off g (k ∷ ks) [] v l = off-nil _ refl refl
   kinds-off g (k ∷ ks) (f ∷ fs) v l = next (counts g p) (group-off k f x ρ (l .0) (h _ (v .0)) (h _ (v .1))) (kinds-off (suc g) ks fs (v .2) (l .1))
     where
-      next : (b : Bool) → Off (M ^ highestDegree) (slackOf ρ k f) (inFixedPoint x k f) (valueOf (group (scaleIn microradians) k f) x)
-          → Off (M ^ highestDegree) (slacks ρ p (suc g) ks fs) (together p (suc g) (byKind (inFixedPoint x) ks fs)) (total (chosen p (suc g) (byKind (group (scaleIn microradians)) ks fs)) x)
-          → Off (M ^ highestDegree) (cond b (slackOf ρ k f) 0 + slacks ρ p (suc g) ks fs) (cond b (inFixedPoint x k f) (pos 0) +ℤ together p (suc g) (byKind (inFixedPoint x) ks fs)) (total (keep b (group (scaleIn microradians) k f) (chosen p (suc g) (byKind (group (scaleIn microradians)) ks fs))) x)
+      next : (b : Bool) → Off (M ^ highestDegree) (slackOf ρ k f) (inFixedPoint x k f) (valueOf (group cumulus (scaleIn microradians) k f) x)
+          → Off (M ^ highestDegree) (slacks ρ p (suc g) ks fs) (together p (suc g) (byKind (inFixedPoint x) ks fs)) (total (chosen p (suc g) (byKind (group cumulus (scaleIn microradians)) ks fs)) x)
+          → Off (M ^ highestDegree) (cond b (slackOf ρ k f) 0 + slacks ρ p (suc g) ks fs) (cond b (inFixedPoint x k f) (pos 0) +ℤ together p (suc g) (byKind (inFixedPoint x) ks fs)) (total (keep b (group cumulus (scaleIn microradians) k f) (chosen p (suc g) (byKind (group cumulus (scaleIn microradians)) ks fs))) x)
       next true o r = off-+ o r
       next false o r = rw (+ℤ-idl (together p (suc g) (byKind (inFixedPoint x) ks fs)), N.zero-add (slacks ρ p (suc g) ks fs)) r
 
@@ -107,10 +109,10 @@ slackIn p C = slacks (reach cumulus fineLimits p) p 0 (cumulus .kinds) (parts C)
 low-degrees : Low (cumulus .kinds)
 low-degrees = (omega arith, (omega arith, (omega arith, (omega arith, tt))))
 
-pub answer-off : (x : ℕ → ℤ) (p : Piece) (C : Coefficient) → eachBelongs C ≡ all-hold → ((i : ℕ) → i < cumulus .variables → natAbs (x i) ≤ reach cumulus fineLimits p i)
+pub answer-off : (x : ℕ → ℤ) (p : Piece) (C : Coefficient) → eachBelongs cumulus (parts C) ≡ all-hold cumulus → ((i : ℕ) → i < cumulus .variables → natAbs (x i) ≤ reach cumulus fineLimits p i)
     → Off (M ^ highestDegree) (slackIn p C) (answerIn p C x) (equation microradians p C x)
 answer-off x p C b h =
-    rw (held-total microradians x C b p) at (kinds-off (cumulus .variables) x (reach cumulus fineLimits p) h p 0 (cumulus .kinds) (parts C) (well-formed Cumulus .in-variables) low-degrees)
+    rw (held-equation microradians x p C b) at (kinds-off (cumulus .variables) x (reach cumulus fineLimits p) h p 0 (cumulus .kinds) (parts C) (well-formed Cumulus .in-variables) low-degrees)
 
 -- ════ by the reaches
 all-followed : every 2 (λ n. every (cumulus .blocks) (λ b. leb (slackIn (piece n) (coefficientAt b)) (2 * (691 * 10 ^ 22)))) ≡ true
@@ -153,14 +155,14 @@ slack-counted p C =
 split-last : (v e : ℤ) → pos (M ^ highestDegree) *ℤ v -ℤ pos perPrinted *ℤ e ≡ pos perPrinted *ℤ (v *ℤ pos (10 ^ 20) -ℤ e)
 split-last v e = ring2 v e (λ ρ f g. simp (quote, quote-pos ρ, f, g) (by _ _ _ tt))
 
-each-belongs : listed (cumulus .blocks) (λ b. eachBelongs (coefficientAt b)) ≡ listed (cumulus .blocks) (λ b. all-hold)
+each-belongs : listed (cumulus .blocks) (λ b. eachBelongs cumulus (parts (coefficientAt b))) ≡ listed (cumulus .blocks) (λ b. all-hold cumulus)
 unfolding listed
 each-belongs = own-variables
 
-all-belong : (b : ℕ) → b < cumulus .blocks → eachBelongs (coefficientAt b) ≡ all-hold
+all-belong : (b : ℕ) → b < cumulus .blocks → eachBelongs cumulus (parts (coefficientAt b)) ≡ all-hold cumulus
 all-belong b h =
-    sym (getD-listed (cumulus .blocks) (λ b. eachBelongs (coefficientAt b)) b [] h) ∙ ap (λ r. getD r b []) each-belongs
-    ∙ getD-listed (cumulus .blocks) (λ b. all-hold) b [] h
+    sym (getD-listed (cumulus .blocks) (λ b. eachBelongs cumulus (parts (coefficientAt b))) b [] h) ∙ ap (λ r. getD r b []) each-belongs
+    ∙ getD-listed (cumulus .blocks) (λ b. all-hold cumulus) b [] h
 
 value-in : (C : Coefficient) (x : ℕ → ℤ) (b : Bool) → equation microradians (cond b low high) C x ≡ cond b (pre microradians C x) (post microradians C x)
 value-in C x true = refl

@@ -32,7 +32,7 @@ use Rattle.layout.specs.Blocks.{piece}
 use Rattle.layout.specs.Limits.{every}
 use Rattle.layout.proofs.Tests.{every-all}
 use Rattle.cumulus.specs.Model.{Coefficient, coefficientAt}
-use Rattle.cumulus.specs.Stored.{printedAt}
+use Rattle.printed.specs.Stored.{printedAt}
 use Rattle.microradians.specs.Fixed.{perPrinted, _⊛_, nano, inFixedPoint}
 use Rattle.microradians.specs.Groups.{groupCount, partAt, fineNumbers, fineGroup}
 use Rattle.microradians.specs.Answer.{answerIn}
@@ -89,7 +89,7 @@ module _ (b i : ℕ) (h : b < cumulus .blocks) (l : i < groupCount) (d : kindAt 
 
   number-is : (p q : ℕ) → p + q ≤ degree → number ints (numbersOf b i) p q ≡ nano (kindAt cumulus i) (partAt (coefficientAt b) i) p q
   unfolding number
-  number-is p q m = getD-listed (size highestDegree) (λ k. printedAt (kindAt cumulus i) (partAt (coefficientAt b) i) k *ℤ pos perPrinted) (place p q) (pos 0) (place-below (suc highestDegree) p q (omega arith))
+  number-is p q m = getD-listed (size highestDegree) (λ k. printedAt cumulus (kindAt cumulus i) (partAt (coefficientAt b) i) k *ℤ pos perPrinted) (place p q) (pos 0) (place-below (suc highestDegree) p q (omega arith))
 
   value-is : (x : ℕ → ℤ) → downward ints _⊛_ degree (number ints (numbersOf b i)) (x (kindAt cumulus i .u)) (x (kindAt cumulus i .v)) ≡ valueAt (coefficientAt b) x i
   value-is x = downward-ext ints _⊛_ degree _ _ _ _ number-is

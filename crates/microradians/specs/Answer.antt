@@ -1,24 +1,20 @@
 -- The published table at five readings in microradians: six answers in units of 10⁻⁹.
-use mathlib.Core.Bool.{cond, not}
+use mathlib.Core.Bool.{not}
 use mathlib.Core.List.{List, [], _∷_, map}
-use Prim.Native.Nat.{ℕ, suc}
+use Prim.Native.Nat.{ℕ}
 use lib.Dec.{eqb}
-use lib.IntN.{ℤ, pos, _+ℤ_, _*ℤ_}
+use lib.IntN.{ℤ, pos, _*ℤ_}
 use lib.ListN.{length, set}
 use Rattle.polynomials.specs.Sum.{listed}
 use Rattle.layout.specs.Shape.{cutPlace, cumulus}
-use Rattle.layout.specs.Blocks.{Piece, counts}
+use Rattle.layout.specs.Blocks.{Piece}
 use Rattle.layout.specs.Refusals.{Refusal, _when_, first, unlessRefused, wrongOutput, outside}
 use Rattle.layout.specs.Reading.{inside, pieceAt}
-use Rattle.cumulus.specs.Model.{Coefficient, coefficients, microradians}
-use Rattle.cumulus.specs.Stored.{parts, byKind}
+use Rattle.cumulus.specs.Model.{Coefficient, coefficients, microradians, parts}
+use Rattle.printed.specs.Values.{together}
+use Rattle.printed.specs.Stored.{byKind}
 use Rattle.cumulus.specs.Published.{publishedLimits}
 use Rattle.microradians.specs.Fixed.{inFixedPoint}
-
--- the values of the groups that count in a piece, from the group numbered n on, together
-abbrev pub together : Piece → ℕ → List ℤ → ℤ
-together p n [] = pos 0
-together p n (z ∷ zs) = cond (counts n p) z (pos 0) +ℤ together p (suc n) zs
 
 -- a coefficient in a piece: of its polynomials in α and η that of the piece, and those in β and ξ and in β and ζ
 abbrev pub answerIn : Piece → Coefficient → (ℕ → ℤ) → ℤ

@@ -6,9 +6,10 @@ use Rattle.polynomials.specs.Numbers.{ints}
 use Rattle.polynomials.specs.Order.{place}
 use Rattle.polynomials.specs.Downward.{downward}
 use Rattle.layout.specs.declared.Kind.{Kind}
-use Rattle.cumulus.specs.Notation.{Polynomial}
+use Rattle.layout.specs.Shape.{cumulus}
+use Rattle.printed.specs.Notation.{Polynomial}
 use Rattle.cumulus.specs.Model.{microradians}
-use Rattle.cumulus.specs.Stored.{printedAt}
+use Rattle.printed.specs.Stored.{printedAt}
 
 -- a number times a reading, to the nearest whole number, a half away from zero
 infixl 7 _⊛_
@@ -21,7 +22,7 @@ perPrinted = 10_000
 
 -- the printed number before uᵖvᵠ
 abbrev pub nano : Kind → Polynomial → ℕ → ℕ → ℤ
-nano k f p q = printedAt k f (place p q) *ℤ pos perPrinted
+nano k f p q = printedAt cumulus k f (place p q) *ℤ pos perPrinted
 
 -- a printed polynomial in the two variables of its group at their readings: each row in the first, and the rows in the second, from the highest down
 abbrev pub inFixedPoint : (ℕ → ℤ) → Kind → Polynomial → ℤ

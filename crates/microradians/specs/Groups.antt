@@ -8,9 +8,9 @@ use Rattle.polynomials.specs.Sum.{listed}
 use Rattle.polynomials.specs.Limits.{highestDegree}
 use Rattle.layout.specs.declared.Kind.{Kind}
 use Rattle.layout.specs.Shape.{cumulus, kindAt}
-use Rattle.cumulus.specs.Notation.{Polynomial, none}
-use Rattle.cumulus.specs.Model.{Coefficient, coefficientAt}
-use Rattle.cumulus.specs.Stored.{printedAt, parts}
+use Rattle.printed.specs.Notation.{Polynomial, none}
+use Rattle.cumulus.specs.Model.{Coefficient, coefficientAt, parts}
+use Rattle.printed.specs.Stored.{printedAt}
 use Rattle.microradians.specs.Fixed.{perPrinted}
 
 -- the groups of a block by their numbers: low and high in α and η, then in β and ξ and in β and ζ
@@ -22,7 +22,7 @@ partAt C i = getD (parts C) i none
 
 -- the numbers of a group, with room for the highest degree
 abbrev pub fineNumbers : Kind → Polynomial → List ℤ
-fineNumbers k f = listed (size highestDegree) (λ i. printedAt k f i *ℤ pos perPrinted)
+fineNumbers k f = listed (size highestDegree) (λ i. printedAt cumulus k f i *ℤ pos perPrinted)
 
 -- of all groups, counted through the blocks, the n-th
 abbrev pub fineGroup : ℕ → List ℤ

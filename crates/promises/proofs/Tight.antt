@@ -199,7 +199,13 @@ coefficient-at-tight κs a o p = tight o p (search same)
 pub move-block-tight : Tight blocks.move_block.ended blocks.move_block.Reads.Post
 move-block-tight κs a o p = tight o p (search same)
 
+pub copy-tight : Tight blocks.copy.ended blocks.copy.Reads.Post
+copy-tight κs a o p = tight o p (search same)
+
 -- ════ tables
+pub publish-table-tight : Tight tables.publishing.publish.ended tables.publishing.publish.Reads.Post
+publish-table-tight κs a o p = tight o p (search same)
+
 pub soundness-tight : Tight tables.soundness.soundness.ended tables.soundness.soundness.Reads.Post
 soundness-tight κs a o p = tight o p (search same)
 

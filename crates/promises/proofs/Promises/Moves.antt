@@ -17,7 +17,6 @@ use Rattle.layout.specs.Refusals.{done, limitPast, moveTooHeavy}
 use Rattle.layout.specs.Reading.{readings, readNumber, readOutput}
 use Rattle.layout.specs.Moving.{movedLimit, movedLimits, movedTable, movedState, moveReach, moveLight, moveNumber, moveOutput}
 use Rattle.layout.specs.Accepted.{MoveAccepted}
-use Rattle.layout.proofs.Sizes.{table-size}
 use Rattle.layout.proofs.LimitLaws.{good-facts, range-within, within-range}
 use Rattle.layout.proofs.Weights.{withinCap-fact, fact-withinCap}
 use Rattle.layout.specs.declared.Model.the-variants.{Cumulus}
@@ -134,4 +133,4 @@ module _ (S : Shape) where
 -- ════ The published table's moves
 -- Each single move is accepted whose size is at most 300, 200, 100, 200, 200, from alpha to zeta.
 pub published-moves : (i : ℕ) (s : ℤ) → i < cumulus .variables → natAbs s ≤ farthestMove i → (out : List ℤ) → length out ≡ tableLength cumulus → moveNumber cumulus published i s out ≡ done
-published-moves i s h m out e = move-accepted i s h m out (e ∙ table-size)
+published-moves = move-accepted

@@ -4,7 +4,6 @@ use mathlib.Core.Logic.{_↔_}
 use mathlib.Core.Bool.{true, false, not}
 use mathlib.Core.List.{List, map}
 use Prim.Native.Nat.{ℕ, _+_, _-_, _*_, _≤_, _<_}
-use native.Mathlib.Decide.{ℕ-discrete}
 use native.Mathlib.Omega.{arith}
 use borrow.Author.Tests.{not-true, not-false}
 use lib.IntN.{ℤ, pos, negsuc, natAbs}
@@ -18,6 +17,7 @@ use Rattle.layout.specs.Limits.{lowest, highest, cut, good}
 use Rattle.layout.specs.Blocks.{Piece, coefficient}
 use Rattle.layout.specs.Sound.{reach, light, SoundTable}
 use Rattle.layout.specs.Refusals.{_when_, first, done, wrongOutput, outside}
+use Rattle.layout.specs.Publishing.{publishNumber, publishOutput}
 use Rattle.layout.specs.Reading.{inside, values, readNumber, readOutput}
 use Rattle.layout.specs.Accepted.{ReadAccepted}
 use Rattle.layout.proofs.Fine.{well-formed}
@@ -26,18 +26,18 @@ use Rattle.layout.proofs.Tests.{&&-left, &&-right, &&-both, leZ-fact, fact-leZ}
 use Rattle.layout.proofs.LimitLaws.{good-facts, facts-good, limit-within, within-range}
 use Rattle.layout.proofs.Weights.{withinCap-fact, fact-withinCap}
 use Rattle.layout.proofs.Heavy.{smallest-heavy}
+use Rattle.layout.proofs.Published.{fitting, other, publish-kept}
 use Rattle.layout.proofs.Refused.{refusedReadings, read-given, read-kept, read-sound, read-done}
 use Rattle.layout.proofs.Accepted.{read-told, sound-limits, sound-weights, same-exactly}
-use Rattle.cumulus.specs.Model.{coefficients, modelValue, scale}
+use Rattle.printed.specs.Stored.{eachBelongs, Multiple, degreeAt}
+use Rattle.cumulus.specs.Model.{coefficients, parts, modelValue, scale}
 use Rattle.cumulus.specs.Envelope.{Envelope}
-use Rattle.cumulus.specs.Stored.{eachBelongs, Multiple, degreeAt}
-use Rattle.cumulus.specs.Published.{published, publishNumber, publishOutput}
+use Rattle.cumulus.specs.Published.{published}
 use Rattle.cumulus.specs.Checked.{asked, checked}
-use Rattle.cumulus.proofs.Answers.{fitting, other}
 use Rattle.cumulus.proofs.Length.{published-length}
-use Rattle.cumulus.proofs.Envelope.{published-good, published-light, read-inside}
+use Rattle.cumulus.proofs.Envelope.{sound-table, read-inside}
 use Rattle.cumulus.proofs.Model.{own-variables, read-model}
-use Rattle.cumulus.proofs.Scaling.{scaling}
+use Rattle.cumulus.proofs.Scaling.{published-multiples}
 use Rattle.cumulus.proofs.Checked.{all-checked}
 use Rattle.door.proofs.Firsts.{first-exactly}
 
@@ -56,28 +56,24 @@ block-starts = start-size
 
 -- ════ Publishing
 -- With room for a table: 0, and the published table.
-pub publish-publishes : (out : List ℤ) → length out ≡ tableLength cumulus → (publishNumber out ≡ done) × (publishOutput out ≡ published)
-publish-publishes out e = fitting out (e ∙ table-size)
+pub publish-publishes : (out : List ℤ) → length out ≡ tableLength cumulus → (publishNumber published out ≡ done) × (publishOutput published out ≡ published)
+publish-publishes out e = fitting published out (e ∙ sym published-length)
 
 -- With room for more or fewer numbers: 2, and nothing is written.
-pub publish-refuses : (out : List ℤ) → (length out ≡ tableLength cumulus → ⊥) → (publishNumber out ≡ wrongOutput) × (publishOutput out ≡ out)
-publish-refuses out h = other out (λ e. h (e ∙ sym table-size))
+pub publish-refuses : (out : List ℤ) → (length out ≡ tableLength cumulus → ⊥) → (publishNumber published out ≡ wrongOutput) × (publishOutput published out ≡ out)
+publish-refuses out h = other published out (λ e. h (e ∙ published-length))
 
--- A refusal writes nothing into the lent space.
-pub refused-publish-writes-nothing : (out : List ℤ) → 0 < publishNumber out → publishOutput out ≡ out
-refused-publish-writes-nothing out h = go (ℕ-discrete (length out) (tableLength cumulus))
-  where
-    go : Dec (length out ≡ tableLength cumulus) → publishOutput out ≡ out
-    go (yes e) = absurd (omega (arith, publish-publishes out e .0))
-    go (no n) = publish-refuses out n .1
+-- A refusal writes nothing into the lent space, whatever table is published.
+pub refused-publish-writes-nothing : (t out : List ℤ) → 0 < publishNumber t out → publishOutput t out ≡ out
+refused-publish-writes-nothing = publish-kept
 
 -- The published table has a table's length and is sound: every promise about sound tables is about it too.
 pub published-sound : SoundTable cumulus published
-published-sound = record { long = published-length; is-sound = &&-both published-good published-light }
+published-sound = sound-table
 
 -- Every stored number of degree n is a multiple of 1000⁴⁻ⁿ.
 pub published-scaling : (k : ℕ) → limitsLength cumulus ≤ k → k < tableLength cumulus → Multiple (scale (degreeAt cumulus (k - limitsLength cumulus))) (getD published k (pos 0))
-published-scaling = scaling
+published-scaling = published-multiples
 
 -- ════ Sound tables
 -- Good limits: each lies in -2000..2000, alpha's lowest <= cut < highest, and each lowest is at most its highest.
@@ -92,9 +88,9 @@ good-rule S t = (
 pub light-rule : (S : Shape) (t : List ℤ) → (light S t ≡ true) ↔ ((b : ℕ) → b < S .blocks → (p : Piece) → totalWeight (coefficient S t b p) (reach S t p) ≤ cap)
 light-rule S t = (withinCap-fact S t (reach S t), fact-withinCap S t (reach S t))
 
--- The smallest 64-bit number is too heavy in any place from 11 on.
-pub smallest-too-heavy : (t : List ℤ) (k : ℕ) → limitsLength cumulus ≤ k → k < tableLength cumulus → getD t k (pos 0) ≡ negsuc 9_223_372_036_854_775_807 → light cumulus t ≡ false
-smallest-too-heavy t k h l = smallest-heavy t k h (omega (arith, table-size))
+-- The smallest 64-bit number is too heavy in any place behind the limits, from 11 on in a Cumulus One table.
+pub smallest-too-heavy : (m : Model) (t : List ℤ) (k : ℕ) → limitsLength (shape m) ≤ k → k < tableLength (shape m) → getD t k (pos 0) ≡ negsuc 9_223_372_036_854_775_807 → light (shape m) t ≡ false
+smallest-too-heavy = smallest-heavy
 
 -- ════ Reading the published table
 -- Inside the envelope it answers the six printed polynomials exactly, in whole units of 10⁻¹⁷.
@@ -103,7 +99,7 @@ pub published-answers-the-print : (x : ℕ → ℤ) (out : List ℤ) → length 
 published-answers-the-print x = read-model x
 
 -- Each printed equation has only its own two variables, and at most the degree of its group.
-pub print-in-its-variables : map eachBelongs coefficients ≡ replicate (cumulus .blocks) (replicate (length (cumulus .kinds)) true)
+pub print-in-its-variables : map (λ C. eachBelongs cumulus (parts C)) coefficients ≡ replicate (cumulus .blocks) (replicate (length (cumulus .kinds)) true)
 print-in-its-variables = own-variables
 
 -- A reading is refused exactly when it is outside.
