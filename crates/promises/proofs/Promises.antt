@@ -6,11 +6,13 @@
 -- gives a fixed answer and one that works out X alone (`published-answers-the-print`, over all six), and a move that copies the table (`moved-answers-as-before`).
 --   Tables  the published table, and what every table answers at a whole-number state
 --   Moves   a datum moved: which moves are accepted, and what the moved table answers
+--   Gtm     the GTM's longitudinal model: its table, its equations, and the same of its tables
 --   Microradians   the published table read in microradians
 --   Door    the floating-point door
 --   Lines   the program trimcard
 pub mod Tables
 pub mod Moves
+pub mod Gtm
 pub mod Microradians
 pub mod Door
 pub mod Lines

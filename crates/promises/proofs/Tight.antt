@@ -38,6 +38,7 @@ use Rattle.blocks.proofs as blocks
 use Rattle.tables.proofs as tables
 use Rattle.moving.proofs as moving
 use Rattle.cumulus.proofs as cumulus
+use Rattle.gtm.proofs as gtm
 use Rattle.microradians.proofs as microradians
 use Rattle.rounding.proofs as rounding
 use Rattle.door.proofs as door
@@ -231,6 +232,16 @@ read-tight κs a o p = tight o p (search same)
 
 pub move-datum-tight : Tight cumulus.move_datum.ended cumulus.move_datum.Reads.Post
 move-datum-tight κs a o p = tight o p (search same)
+
+-- ════ gtm
+pub gtm-publish-tight : Tight gtm.publish.ended gtm.publish.Reads.Post
+gtm-publish-tight κs a o p = tight o p (search same)
+
+pub gtm-read-tight : Tight gtm.read.ended gtm.read.Reads.Post
+gtm-read-tight κs a o p = tight o p (search same)
+
+pub gtm-move-datum-tight : Tight gtm.move_datum.ended gtm.move_datum.Reads.Post
+gtm-move-datum-tight κs a o p = tight o p (search same)
 
 -- ════ microradians
 pub read-microradians-tight : Tight microradians.read.ended microradians.read.Reads.Post

@@ -13,7 +13,7 @@ use Rattle.layout.specs.Shape.{Shape, WellFormed, limitsLength, tableLength, cu
 use Rattle.layout.specs.Limits.{allInRange}
 use Rattle.layout.specs.Blocks.{Piece, coefficient}
 use Rattle.layout.specs.Sound.{SoundTable}
-use Rattle.layout.specs.Refusals.{done, limitPast, moveTooHeavy}
+use Rattle.layout.specs.Refusals.{done, wrongTable, noVariable, limitPast, moveTooHeavy}
 use Rattle.layout.specs.Reading.{readings, readNumber, readOutput}
 use Rattle.layout.specs.Moving.{movedLimit, movedLimits, movedTable, movedState, moveReach, moveLight, moveNumber, moveOutput}
 use Rattle.layout.specs.Accepted.{MoveAccepted}
@@ -23,7 +23,7 @@ use Rattle.layout.specs.declared.Model.the-variants.{Cumulus}
 use Rattle.layout.proofs.Moved.{getD-movedLimits, movedTable-twice, movedTable-nil, movedTable-back, movedTable-swap}
 use Rattle.layout.proofs.SoundMoved.{moved-sound, still-range, still-light}
 use Rattle.layout.proofs.ReadingMoved.{readings-moved, readNumber-moved, readOutput-moved}
-use Rattle.layout.proofs.Refused.{move-given, move-kept}
+use Rattle.layout.proofs.Refused.{move-given, move-kept, move-wrong-table, move-no-variable}
 use Rattle.layout.proofs.Accepted.{move-told, sound-limits, sound-weights, move-done-exactly, move-limit-past-exactly, move-past-cap-exactly, move-no-other}
 use Rattle.cumulus.specs.Envelope.{farthestMove}
 use Rattle.cumulus.specs.Published.{published}
@@ -48,6 +48,14 @@ module _ (S : Shape) where
   -- Only a sound table is moved, with room, in one of its variables, and by a move that keeps both rules below.
   pub only-sound-is-moved : (t : List ℤ) (i : ℕ) (s : ℤ) (out : List ℤ) → moveNumber S t i s out ≡ done → MoveAccepted S t i s out
   only-sound-is-moved = move-told S
+
+  -- A table of another length is refused by 1, whatever else holds;
+  pub other-length-is-not-moved : (t : List ℤ) (i : ℕ) (s : ℤ) (out : List ℤ) → (length t ≡ tableLength S → ⊥) → moveNumber S t i s out ≡ wrongTable
+  other-length-is-not-moved = move-wrong-table S
+
+  -- with room for the moved table, a variable that there is not by 5.
+  pub no-such-variable : (t : List ℤ) (i : ℕ) (s : ℤ) (out : List ℤ) → length t ≡ tableLength S → length out ≡ tableLength S → S .variables ≤ i → moveNumber S t i s out ≡ noVariable
+  no-such-variable = move-no-variable S
 
   module _ (t : List ℤ) (i : ℕ) (s : ℤ) (out : List ℤ) (w : SoundTable S t) (room : length out ≡ tableLength S) (known : i < S .variables) where
     -- A sound table's move, with room and in one of its variables, gives 0 exactly where every moved limit is in range and the weight rule is kept,

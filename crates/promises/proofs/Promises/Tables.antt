@@ -16,7 +16,7 @@ use Rattle.layout.specs.Shape.{Shape, WellFormed, limitsLength, blockLength, bl
 use Rattle.layout.specs.Limits.{lowest, highest, cut, good}
 use Rattle.layout.specs.Blocks.{Piece, coefficient}
 use Rattle.layout.specs.Sound.{reach, light, SoundTable}
-use Rattle.layout.specs.Refusals.{_when_, first, done, wrongOutput, outside}
+use Rattle.layout.specs.Refusals.{_when_, first, done, wrongTable, wrongOutput, outside}
 use Rattle.layout.specs.Publishing.{publishNumber, publishOutput}
 use Rattle.layout.specs.Reading.{inside, values, readNumber, readOutput}
 use Rattle.layout.specs.Accepted.{ReadAccepted}
@@ -27,7 +27,7 @@ use Rattle.layout.proofs.LimitLaws.{good-facts, facts-good, limit-within, withi
 use Rattle.layout.proofs.Weights.{withinCap-fact, fact-withinCap}
 use Rattle.layout.proofs.Heavy.{smallest-heavy}
 use Rattle.layout.proofs.Published.{fitting, other, publish-kept}
-use Rattle.layout.proofs.Refused.{refusedReadings, read-given, read-kept, read-sound, read-done}
+use Rattle.layout.proofs.Refused.{refusedReadings, read-given, read-kept, read-wrong-table, read-sound, read-done}
 use Rattle.layout.proofs.Accepted.{read-told, sound-limits, sound-weights, same-exactly}
 use Rattle.printed.specs.Stored.{eachBelongs, Multiple, degreeAt}
 use Rattle.cumulus.specs.Model.{coefficients, parts, modelValue, scale}
@@ -134,6 +134,10 @@ module _ (S : Shape) (t : List ℤ) (x : ℕ → ℤ) (out : List ℤ) where
   -- and nothing else is read.
   pub only-sound-is-read : readNumber S t x out ≡ done → ReadAccepted S t x out
   only-sound-is-read = read-told S t x out
+
+  -- A table of another length is refused by 1, whatever else holds.
+  pub other-length-is-not-read : (length t ≡ tableLength S → ⊥) → readNumber S t x out ≡ wrongTable
+  other-length-is-not-read = read-wrong-table S t x out
 
   -- A sound table, with room, gives 11 to 15 exactly for the first of the readings that is outside.
   pub first-outside-is-named : WellFormed S → SoundTable S t → length out ≡ S .blocks → (i : ℕ) → i < S .variables
