@@ -11,7 +11,7 @@ import door
 import fixed_point
 import tables
 from draws import I64_MAX, I64_MIN, MASK
-from model import TABLE_LENGTH
+from model import CUMULUS, TABLE_LENGTH
 
 SPACE_COUNT = 10
 MOST_NUMBERS = 320
@@ -122,11 +122,11 @@ class Desk:
         return "0 wrote %d sum %d" % (len(room), checksum(self.spaces[into]))
 
     def publish(self, into):
-        return self.write(into, tables.publish)
+        return self.write(into, lambda room: tables.publish(CUMULUS, room))
 
     def move(self, space, variable, shift, into):
         table = self.spaces[space]
-        return self.write(into, lambda room: tables.move(table, variable, shift, room))
+        return self.write(into, lambda room: tables.move(CUMULUS, table, variable, shift, room))
 
     def values(self, length, operation):
         """Lend a room of the given length, and tell what was written with a 0."""
@@ -137,7 +137,7 @@ class Desk:
         return refusal(number, room) if number != tables.DONE else spaced([number] + room)
 
     def read(self, space, length, *readings):
-        return self.values(length, lambda room: tables.read(self.spaces[space], readings, room))
+        return self.values(length, lambda room: tables.read(CUMULUS, self.spaces[space], readings, room))
 
     def floats(self, space, *reading_bits):
         number, six, handed_back = door.read_floats(self.spaces[space], reading_bits)

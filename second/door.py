@@ -1,4 +1,4 @@
-"""The floating-point door, worked on 64-bit patterns of binary64 numbers.
+"""The floating-point door of Cumulus tables, worked on 64-bit patterns of binary64 numbers.
 
 A pattern is turned into an exact fraction and a result is rounded back by
 whole-number arithmetic, so no floating-point arithmetic takes part in any answer.
@@ -7,7 +7,8 @@ whole-number arithmetic, so no floating-point arithmetic takes part in any answe
 from fractions import Fraction
 
 import tables
-from tables import DONE, LIMITS_NOT_GOOD, READING_OUTSIDE, TOO_HEAVY, WRONG_TABLE_LENGTH
+from model import CUMULUS, READING_OUTSIDE
+from tables import DONE, LIMITS_NOT_GOOD, TOO_HEAVY, WRONG_TABLE_LENGTH
 
 NOT_FINITE = (21, 22, 23, 24, 25)   # by variable number
 DOOR_ORDER = (WRONG_TABLE_LENGTH, LIMITS_NOT_GOOD, TOO_HEAVY) + NOT_FINITE + READING_OUTSIDE
@@ -91,7 +92,7 @@ def refused(number, handed_back):
 
 def six_answers(table, reading_bits):
     readings = [whole_reading(bits) for bits in reading_bits]
-    return [answer_bits(number) for number in tables.all_coefficients(table, readings)]
+    return [answer_bits(number) for number in tables.all_coefficients(CUMULUS, table, readings)]
 
 
 def handed_back_with(number, reading_bits):
@@ -100,12 +101,12 @@ def handed_back_with(number, reading_bits):
 
 
 def float_is_outside(table, variable, bits):
-    return tables.is_outside(table, variable, whole_reading(bits))
+    return tables.is_outside(CUMULUS, table, variable, whole_reading(bits))
 
 
 def read_floats(table, reading_bits):
     """Give (number, six patterns, pattern of the reading handed back)."""
-    tests = tables.table_tests(table)
+    tests = tables.table_tests(CUMULUS, table)
     for v in range(5):
         tests[NOT_FINITE[v]] = lambda v=v: not is_finite(reading_bits[v])
         tests[READING_OUTSIDE[v]] = lambda v=v: float_is_outside(table, v, reading_bits[v])

@@ -1,31 +1,40 @@
-"""Sections of drawn reads and moves: published, moved, random, unsound and damaged tables, and tables whose weight is just the cap."""
+"""Sections of drawn reads and moves: published, moved, random, unsound and damaged tables, and tables whose weight is just the cap.
+
+Each is drawn for the shape of the script that it is given.
+"""
 
 from draws import I64_MAX, I64_MIN
 from makers import (
-    DENSE_BUDGETS, PROMISED_SIZES, damage, dense_table, filling_place, full_number, good_limits, inside_float_state, inside_state,
-    last_accepted, move_factor_at, nudge, of_sign, one_in_each_block, random_table, rest_of_cap, shifted, spoil_limits, spoil_state,
-    variables_at,
+    DENSE_BUDGETS, PROMISED_SIZES, any_variable, damage, dense_table, filling_place, full_number, good_limits, inside_float_state,
+    inside_state, last_accepted, move_factor_at, nudge, of_sign, one_in_each_block, random_table, rest_of_cap, shifted, spoil_limits,
+    spoil_state, variables_at,
 )
-from model import FIRST_BLOCK
+from model import CUMULUS
 from tables import WEIGHT_CAP
 
 
 def use_table(script, gen, space):
     """Two reads of any table of full length."""
-    state = inside_state(gen, script.table(space))
+    state = inside_state(gen, script.shape, script.table(space))
     script.read(space, state)
-    script.read(space, spoil_state(gen, script.table(space), state))
+    script.read(space, spoil_state(gen, script.shape, script.table(space), state))
 
 
 def move_and_use(script, gen, space, variable, shift, into):
     """A move; if accepted, the same state on both sides and uses of the new table."""
-    state = inside_state(gen, script.table(space))
+    state = inside_state(gen, script.shape, script.table(space))
     if not script.move(space, variable, shift, into):
         return False
     script.read(space, state)
     script.read(into, shifted(state, variable, shift))
     use_table(script, gen, into)
     return True
+
+
+def float_read(script, gen, space):
+    """A read with floats, which Cumulus tables alone have."""
+    if script.shape is CUMULUS:
+        script.floats(space, inside_float_state(gen, script.table(space)))
 
 
 def published_reads(script, gen):
@@ -38,8 +47,8 @@ def published_and_moved(script, gen):
     script.published(0)
     script.zeros(1)
     for _ in range(80):
-        v = gen.take(0, 4)
-        bound = PROMISED_SIZES[v] * gen.take(1, 3)
+        v = any_variable(gen, script.shape)
+        bound = PROMISED_SIZES[script.shape][v] * gen.take(1, 3)
         move_and_use(script, gen, 0, v, gen.take(-bound, bound), 1)
 
 
@@ -58,9 +67,9 @@ def composed_moves(script, gen):
     for _ in range(12):
         script.published(0)
         for _ in range(5):
-            if move_and_use(script, gen, 0, gen.take(0, 4), gen.take(-120, 120), 1):
+            if move_and_use(script, gen, 0, any_variable(gen, script.shape), gen.take(-120, 120), 1):
                 script.copy(1, 0)
-        v, w = gen.take(0, 4), gen.take(0, 4)
+        v, w = any_variable(gen, script.shape), any_variable(gen, script.shape)
         shift, other = gen.take(-60, 60), gen.take(-60, 60)
         two_moves(script, v, shift, w, other)
         script.move(0, v, shift + other, 2)
@@ -85,9 +94,9 @@ def chains_with_refusals(script, gen):
     for turn in range(40):
         published_or_random(script, gen, turn)
         for _ in range(10):
-            script.move(0, gen.take(0, 5), any_shift(gen), 0)
-            script.read(0, inside_state(gen, script.table(0)))
-        script.show(0, 0, 12)
+            script.move(0, gen.take(0, script.shape.variable_count), any_shift(gen), 0)
+            script.read(0, inside_state(gen, script.shape, script.table(0)))
+        script.show(0, 0, script.shape.first_block + 1)
 
 
 def bad_limits(script, gen):
@@ -97,7 +106,7 @@ def bad_limits(script, gen):
         script.copy(0, 1)
         spoil_limits(script, gen, 1)
         use_table(script, gen, 1)
-        script.move(1, gen.take(0, 6), gen.take(-10, 10), 2)
+        script.move(1, gen.take(0, script.shape.variable_count + 1), gen.take(-10, 10), 2)
 
 
 def damaged_tables(script, gen):
@@ -110,13 +119,13 @@ def damaged_tables(script, gen):
             nudge(script, gen, 0, 1)
         damage(script, gen, 1)
         use_table(script, gen, 1)
-        move_and_use(script, gen, 1, gen.take(0, 4), gen.take(-100, 100), 2)
+        move_and_use(script, gen, 1, any_variable(gen, script.shape), gen.take(-100, 100), 2)
 
 
 def border(script, gen, space, variable, into):
     """The last accepted and the first refused move of a variable, one way."""
     sign = of_sign(gen, 1)
-    size = last_accepted(script.table(space), variable, sign)
+    size = last_accepted(script.shape, script.table(space), variable, sign)
     script.move(space, variable, sign * size, into)
     script.move(space, variable, sign * (size + 1), into)
 
@@ -124,7 +133,7 @@ def border(script, gen, space, variable, into):
 def use_and_move_to_border(script, gen):
     """The table in space 0 read, moved into space 1, and moved there to its border."""
     use_table(script, gen, 0)
-    v = gen.take(0, 4)
+    v = any_variable(gen, script.shape)
     move_and_use(script, gen, 0, v, gen.take(-200, 200), 1)
     border(script, gen, 0, v, 1)
 
@@ -144,7 +153,7 @@ def dense_random_tables(script, gen):
         for quarters in (1, 2, 3, 4):
             dense_table(script, gen, 0, budget, quarters)
             use_and_move_to_border(script, gen)
-            script.floats(0, inside_float_state(gen, script.table(0)))
+            float_read(script, gen, 0)
 
 
 def borders_of_moved_tables(script, gen):
@@ -153,35 +162,35 @@ def borders_of_moved_tables(script, gen):
     script.zeros(2)
     for turn in range(16):
         published_or_random(script, gen, turn)
-        v = gen.take(0, 4)
+        v = any_variable(gen, script.shape)
         sign = of_sign(gen, 1)
-        if script.move(0, v, sign * last_accepted(script.table(0), v, sign), 1):
-            for w in range(5):
+        if script.move(0, v, sign * last_accepted(script.shape, script.table(0), v, sign), 1):
+            for w in range(script.shape.variable_count):
                 border(script, gen, 1, w, 2)
 
 
 def read_with(script, gen, place, size):
     """Read the table in space 1 with a number of the given size at a place."""
     script.set(1, place, of_sign(gen, size))
-    script.read(1, inside_state(gen, script.table(1)))
+    script.read(1, inside_state(gen, script.shape, script.table(1)))
 
 
 def weights_at_the_cap(script, gen):
     """The largest number that a place takes, and the rest of the cap beside it."""
     script.zeros(2)
-    for k in range(300):
-        limits = good_limits(gen)
+    shape = script.shape
+    for place in range(shape.first_block, shape.table_length):
+        limits = good_limits(gen, shape)
         script.limits(1, limits)
-        place = FIRST_BLOCK + k
-        size, rest = full_number(limits, place), rest_of_cap(limits, place)
-        filling = filling_place(place)
+        size, rest = full_number(shape, limits, place), rest_of_cap(shape, limits, place)
+        filling = filling_place(shape, place)
         read_with(script, gen, place, size + 1)
         read_with(script, gen, place, size)
         read_with(script, gen, filling, rest + 1)
-        script.floats(1, inside_float_state(gen, script.table(1)))
+        float_read(script, gen, 1)
         read_with(script, gen, filling, rest)
-        script.floats(1, inside_float_state(gen, script.table(1)))
-        v = gen.take(0, 4)
+        float_read(script, gen, 1)
+        v = any_variable(gen, shape)
         script.move(1, v, 0, 2)
         script.move(1, v, gen.take(-3, 3), 2)
 
@@ -189,15 +198,16 @@ def weights_at_the_cap(script, gen):
 def moves_at_the_cap(script, gen):
     """The largest number at a place with which a move is accepted, and the rest of the cap beside it: just accepted, just refused."""
     script.zeros(2)
-    for k in range(100):
-        limits = good_limits(gen)
-        place = FIRST_BLOCK + 3 * k + gen.take(0, 2)
-        variable, shift = gen.pick(variables_at(place) or range(5)), gen.take(-50, 50)
-        factor = move_factor_at(limits, place, variable, shift)
+    shape = script.shape
+    for third in range(shape.first_block, shape.table_length, 3):
+        limits = good_limits(gen, shape)
+        place = third + gen.take(0, 2)
+        variable, shift = gen.pick(variables_at(shape, place) or range(shape.variable_count)), gen.take(-50, 50)
+        factor = move_factor_at(shape, limits, place, variable, shift)
         script.limits(1, limits)
         script.set(1, place, of_sign(gen, WEIGHT_CAP // factor))
         for more in (0, 1):
-            script.set(1, filling_place(place), of_sign(gen, WEIGHT_CAP % factor + more))
+            script.set(1, filling_place(shape, place), of_sign(gen, WEIGHT_CAP % factor + more))
             script.move(1, variable, shift, 2)
 
 
@@ -206,14 +216,15 @@ def each_block(script, gen):
 
     Taken together by place, the blocks' magnitudes are mostly too heavy.
     """
+    shape = script.shape
     script.zeros(2)
     for k in range(90):
-        limits = good_limits(gen)
+        limits = good_limits(gen, shape)
         one_in_each_block(script, gen, 1, limits, k % 3)
         use_table(script, gen, 1)
-        script.move(1, gen.take(0, 4), gen.take(-3, 3), 2)
-        place = FIRST_BLOCK + gen.take(0, 299)
-        read_with(script, gen, place, full_number(limits, place) + 1)
+        script.move(1, any_variable(gen, shape), gen.take(-3, 3), 2)
+        place = gen.take(shape.first_block, shape.table_length - 1)
+        read_with(script, gen, place, full_number(shape, limits, place) + 1)
 
 
 SECTIONS = (

@@ -8,10 +8,11 @@ down, and the row before each of these powers from the highest power of its firs
 from fractions import Fraction
 
 from model import (
-    ALPHA, BLOCK_COUNT, EQUATIONS_OF_BLOCK, GROUPS, HIGH_GROUP, LOW_GROUP, PRINTED, PUBLISHED_LIMITS, XI_GROUP, ZETA_GROUP,
-    parse_polynomial,
+    ALPHA, BLOCK_COUNT, CUMULUS, EQUATIONS_OF_BLOCK, GROUPS, HIGHEST, HIGH_GROUP, LOWEST, LOW_GROUP, PRINTED, PUBLISHED_LIMITS,
+    READING_OUTSIDE, READ_LENGTH, XI_GROUP, ZETA_GROUP,
 )
-from tables import DONE, HIGHEST, LOWEST, READING_OUTSIDE, READ_LENGTH, WRONG_OUTPUT_LENGTH, first_that_holds
+from shapes import printed_terms
+from tables import DONE, WRONG_OUTPUT_LENGTH, first_that_holds
 
 UNIT = 10**9
 RADIAN = 10**6                      # in microradians
@@ -33,9 +34,8 @@ def rows_of(equations, group):
     """A group's numbers in rows, one for each power of its second variable, each by the powers of its first; all powers rise."""
     degree = max(q for _, q in group.powers)
     rows = [[0] * (degree - q + 1) for q in range(degree + 1)]
-    for equation in equations:
-        for powers, value in parse_polynomial(PRINTED[equation]).items():
-            rows[powers[group.second]][powers[group.first]] = in_units(value)
+    for powers, value in printed_terms(PRINTED, CUMULUS.letters, equations):
+        rows[powers[group.second]][powers[group.first]] = in_units(value)
     return rows
 
 

@@ -8,8 +8,8 @@ from makers import (
     INFINITY, QUIET, QUIET_NAN, SPECIAL_BITS, ZEROS, bits_of_ratio, bits_of_whole, damage, good_limits, inside_float_state, nudge,
     one_in_each_block, random_table, spoil_limits, with_reading,
 )
-from model import PUBLISHED_TABLE
-from tables import ALPHA_CUT, HIGHEST, LOWEST
+from model import CUMULUS, HIGHEST, LOWEST, PUBLISHED_TABLE
+from shapes import ALPHA_CUT
 
 SIGNS = (0, SIGN_BIT)
 LARGEST_PAYLOAD = QUIET - 1
@@ -108,7 +108,7 @@ def published_with(change, times):
 def near_the_cap(script, gen):
     """Tables near the cap in every block."""
     for k in range(60):
-        one_in_each_block(script, gen, 1, good_limits(gen), k % 3)
+        one_in_each_block(script, gen, 1, good_limits(gen, CUMULUS), k % 3)
         use_table(script, gen, 1)
 
 

@@ -7,8 +7,8 @@ from makers import (
     INFINITY, NARROW_LIMITS, PROMISED_SIZES, QUIET_NAN, X_CONSTANT, X_LOW_AAA, ZEROS, bits_of_ratio, bits_of_whole, corners, last_accepted,
     with_reading,
 )
-from model import BLOCK_LENGTH, FIRST_BLOCK, PUBLISHED_TABLE, TABLE_LENGTH
-from tables import HIGHEST, LOWEST, WEIGHT_CAP
+from model import BLOCK_LENGTH, CUMULUS, FIRST_BLOCK, HIGHEST, LOWEST, PUBLISHED_TABLE, TABLE_LENGTH
+from tables import WEIGHT_CAP
 
 ODD_VARIABLES = (5, 6, 1 << 32, (1 << 32) + 1, 1 << 63, MASK)
 # the length of a table, and others about it and about those of its parts
@@ -93,7 +93,7 @@ def readings_at_the_limits(script, _):
     for alpha in range(310, 318):
         script.read(0, [alpha, 7, -5, 3, -2])
     script.comment("every corner, in both pieces")
-    for state in corners(t):
+    for state in corners(CUMULUS, t):
         script.read(0, state)
 
 
@@ -144,7 +144,7 @@ def moves_of_the_published_table(script, _):
     t = PUBLISHED_TABLE
     for v in range(5):
         lo, hi = t[LOWEST[v]], t[HIGHEST[v]]
-        promised = PROMISED_SIZES[v]
+        promised = PROMISED_SIZES[CUMULUS][v]
         for shift in (0, 1, -1, promised, -promised, promised + 1, -promised - 1,
                       lo, hi, lo + 2000, lo + 2001, hi - 2000, hi - 2001, 4000, -4000):
             script.move(0, v, shift, 2)
@@ -152,7 +152,7 @@ def moves_of_the_published_table(script, _):
     script.comment("the last that is accepted and the first that is refused")
     for v in range(5):
         for sign in (1, -1):
-            size = last_accepted(t, v, sign)
+            size = last_accepted(CUMULUS, t, v, sign)
             script.move(0, v, sign * size, 2)
             script.move(0, v, sign * (size + 1), 2)
     script.comment("variables that are none")

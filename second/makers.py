@@ -8,15 +8,16 @@ from fractions import Fraction
 import door
 import tables
 from draws import I64_MAX, I64_MIN, signed
-from model import BLOCK_LENGTH, FIRST_BLOCK, GROUPS, HIGH_GROUP, LOW_GROUP, TABLE_LENGTH, XI_GROUP, ZETA_GROUP, place_of
-from tables import HIGHEST, LOWEST, WEIGHT_CAP
+from model import CUMULUS, FIRST_BLOCK, HIGHEST, LOWEST
+from shapes import ALPHA, ALPHA_CUT, HIGH_GROUP, LOW_GROUP
+from tables import WEIGHT_CAP
 
 ZEROS = [0, 0, 0, 0, 0]
 NARROW_LIMITS = (-100, 0, 1, 0, 0, 0, 0, 0, 0, 0, 0)
 X_CONSTANT = FIRST_BLOCK
-X_LOW_AAA = place_of(0, 0, (3, 0))          # place 17
+X_LOW_AAA = CUMULUS.place_of(0, LOW_GROUP, (3, 0))      # place 17
 # sizes up to which each single move of the published table is accepted
-PROMISED_SIZES = (300, 200, 100, 200, 200)
+PROMISED_SIZES = {CUMULUS: (300, 200, 100, 200, 200)}
 
 
 # ---------------------------------------------------------------------- states
@@ -27,37 +28,42 @@ def with_reading(variable, value):
     return readings
 
 
-def corners(table):
+def corners(shape, table):
     """Every state in which each reading is at its lowest or its highest limit."""
-    return [[table[HIGHEST[v]] if corner >> v & 1 else table[LOWEST[v]] for v in range(5)] for corner in range(32)]
+    return [[table[(shape.highest if corner >> v & 1 else shape.lowest)[v]] for v in range(shape.variable_count)]
+            for corner in range(1 << shape.variable_count)]
 
 
-def inside_state(gen, table):
-    """Five readings within the limits, often on them or at the cut."""
+def inside_state(gen, shape, table):
+    """Readings within the limits, often on them or at the cut."""
     readings = []
-    for v in range(5):
-        lo, hi = table[LOWEST[v]], table[HIGHEST[v]]
+    for v in range(shape.variable_count):
+        lo, hi = table[shape.lowest[v]], table[shape.highest[v]]
         way = gen.take(0, 7)
         reading = gen.take(lo, hi)
         if way == 0:
             reading = lo
         elif way == 1:
             reading = hi
-        elif way == 2 and v == 0:
-            reading = table[1]
-        elif way == 3 and v == 0:
-            reading = signed(table[1] + 1)
+        elif way == 2 and v == ALPHA:
+            reading = table[ALPHA_CUT]
+        elif way == 3 and v == ALPHA:
+            reading = signed(table[ALPHA_CUT] + 1)
         readings.append(reading)
     return readings
 
 
-def spoil_state(gen, table, readings):
+def any_variable(gen, shape):
+    return gen.take(0, shape.variable_count - 1)
+
+
+def spoil_state(gen, shape, table, readings):
     """Replace one reading by a value just past a limit or far away."""
-    v = gen.take(0, 4)
+    v = any_variable(gen, shape)
     way = gen.take(0, 4)
     anything = gen.take(I64_MIN, I64_MAX)
     spoilt = list(readings)
-    spoilt[v] = (signed(table[LOWEST[v]] - 1), signed(table[HIGHEST[v]] + 1),
+    spoilt[v] = (signed(table[shape.lowest[v]] - 1), signed(table[shape.highest[v]] + 1),
                  I64_MIN, I64_MAX, anything)[way]
     return spoilt
 
@@ -73,28 +79,29 @@ def shifted(readings, variable, shift):
 
 def nudge(script, gen, space, into):
     """A small move, which the published table always takes."""
-    script.length(into, TABLE_LENGTH)
-    script.move(space, gen.take(0, 4), gen.take(-100, 100), into)
+    script.length(into, script.shape.table_length)
+    script.move(space, any_variable(gen, script.shape), gen.take(-100, 100), into)
 
 
 def spoil_limits(script, gen, space):
     """Limits that are not good, or, the last way, just still good."""
-    t = script.table(space)
-    v = gen.take(1, 4)
+    t, shape = script.table(space), script.shape
+    v, last = gen.take(1, shape.variable_count - 1), shape.first_block - 1
+    lowest, highest = shape.lowest[v], shape.highest[v]
     far = gen.pick((I64_MIN, I64_MAX, gen.take(I64_MIN, I64_MAX)))
     place, value = gen.pick((
-        (gen.take(0, 10), 2001), (gen.take(0, 10), -2001), (gen.take(0, 10), far),
+        (gen.take(0, last), 2001), (gen.take(0, last), -2001), (gen.take(0, last), far),
         (1, t[2]),                          # no room for the high piece
         (0, t[1] + 1),                      # no room for the low piece
-        (LOWEST[v], t[HIGHEST[v]] + 1),
-        (LOWEST[v], t[HIGHEST[v]]),         # still good: one single reading
+        (lowest, t[highest] + 1),
+        (lowest, t[highest]),               # still good: one single reading
     ))
     script.set(space, place, value)
 
 
 def damage(script, gen, space):
     """One number changed."""
-    place = gen.take(0, 310)
+    place = gen.take(0, script.shape.table_length - 1)
     old = script.table(space)[place]
     anything = gen.take(I64_MIN, I64_MAX)
     script.set(space, place, gen.pick((I64_MIN, I64_MAX, signed(old + 1), signed(old - 1), signed(-old), 0, anything)))
@@ -102,61 +109,76 @@ def damage(script, gen, space):
 
 # --------------------------------------------------------------- random tables
 
-def good_limits(gen):
-    """Eleven good limits, drawn in the order of their places."""
+def good_limits(gen, shape):
+    """Good limits, drawn in the order of their places."""
     m = gen.pick((2000, 500, 50, 3))
-    limits = [0] * 11
+    limits = [0] * shape.first_block
     limits[0] = gen.take(-m, m - 1)
     limits[1] = gen.take(limits[0], m - 1)
     limits[2] = gen.take(limits[1] + 1, m)
-    for v in range(1, 5):
+    for lowest, highest in shape.limit_places[1:]:
         if gen.take(0, 5) != 0:             # else both stay 0: the reach of 1
-            limits[LOWEST[v]] = gen.take(-m, m)
-            limits[HIGHEST[v]] = gen.take(limits[LOWEST[v]], m)
+            limits[lowest] = gen.take(-m, m)
+            limits[highest] = gen.take(limits[lowest], m)
     return limits
 
 
-def group_and_offset(place):
+def block_of(shape, place):
+    return (place - shape.first_block) // shape.block_length
+
+
+def group_and_offset(shape, place):
     """The number of a place's group, and its place inside that."""
-    offset = (place - FIRST_BLOCK) % BLOCK_LENGTH
-    number = max(g for g in range(len(GROUPS)) if GROUPS[g].start <= offset)
-    return number, offset - GROUPS[number].start
+    offset = (place - shape.first_block) % shape.block_length
+    number = max(g for g, group in enumerate(shape.groups) if group.start <= offset)
+    return number, offset - shape.groups[number].start
 
 
-def piece_of(place):
+def piece_of(shape, place):
     """The piece of which a place is weighed; that of a side group is weighed in both, with the same factor."""
-    return LOW_GROUP if group_and_offset(place)[0] == LOW_GROUP else HIGH_GROUP
+    return LOW_GROUP if group_and_offset(shape, place)[0] == LOW_GROUP else HIGH_GROUP
 
 
-def product_at(radii, place):
-    number, inside = group_and_offset(place)
-    of_first, of_second = GROUPS[number].powers[inside]
-    return radii[GROUPS[number].first] ** of_first * radii[GROUPS[number].second] ** of_second
+def variables_and_powers(shape, place):
+    """Both variables of a place's group, each with its power in the term of the place."""
+    number, inside = group_and_offset(shape, place)
+    group = shape.groups[number]
+    return list(zip((group.first, group.second), group.powers[inside]))
 
 
-def variables_at(place):
+def product_at(shape, radii, place):
+    (first, of_first), (second, of_second) = variables_and_powers(shape, place)
+    return radii[first] ** of_first * radii[second] ** of_second
+
+
+def variables_at(shape, place):
     """The variables that the term of a place has."""
-    number, inside = group_and_offset(place)
-    group = GROUPS[number]
-    return [variable for variable, power in zip((group.first, group.second), group.powers[inside]) if power]
+    return [variable for variable, power in variables_and_powers(shape, place) if power]
 
 
-def factor_at(limits, place):
+def factor_at(shape, limits, place):
     """The product of reaches by which the number at a place is weighed."""
-    return product_at(tables.reaches(limits, piece_of(place)), place)
+    return product_at(shape, tables.reaches(shape, limits, piece_of(shape, place)), place)
 
 
-def move_factor_at(limits, place, variable, shift):
+def move_factor_at(shape, limits, place, variable, shift):
     """The same for the weight by which a move is accepted or refused."""
-    radii = tables.reaches(limits, piece_of(place))
-    moved = tables.moved_limits(limits, variable, shift)
-    radii[variable] = tables.reaches(moved, piece_of(place))[variable] + abs(shift)
-    return product_at(radii, place)
+    piece = piece_of(shape, place)
+    radii = tables.reaches(shape, limits, piece)
+    moved = tables.moved_limits(shape, limits, variable, shift)
+    radii[variable] = tables.reaches(shape, moved, piece)[variable] + abs(shift)
+    return product_at(shape, radii, place)
 
 
 # What a term may weigh. The first make tables near the cap, on either side of it; the last make light tables that can be moved far.
 BUDGETS = (2 * 10**18, 10**18, 5 * 10**17, 10**15, 10**12, 10**9)
-STEPS = (50, 50, 50, 50, 100, 150, 0)
+# Of how many blocks' length the steps are.
+STEPS = (1, 1, 1, 1, 2, 3, 0)
+
+
+def places_of_block(shape):
+    """Those of the first block."""
+    return range(shape.first_block, shape.first_block + shape.block_length)
 
 
 def draw_seed(gen):
@@ -166,15 +188,17 @@ def draw_seed(gen):
 
 def random_table(script, gen, space):
     """Good limits, and drawn numbers at some places of several blocks, each weighing no more than a drawn budget."""
-    limits = good_limits(gen)
+    shape = script.shape
+    limits = good_limits(gen, shape)
     script.limits(space, limits)
     budget = gen.pick(BUDGETS)
     if gen.take(0, 1) == 1:                 # no place is left 0
-        heaviest = max(factor_at(limits, place) for place in range(FIRST_BLOCK, FIRST_BLOCK + BLOCK_LENGTH))
-        script.fill(space, FIRST_BLOCK, 1, budget // heaviest + 2, draw_seed(gen))
+        heaviest = max(factor_at(shape, limits, place) for place in places_of_block(shape))
+        script.fill(space, shape.first_block, 1, budget // heaviest + 2, draw_seed(gen))
     for _ in range(gen.take(4, 14)):
-        place = gen.take(FIRST_BLOCK, FIRST_BLOCK + 2 * BLOCK_LENGTH - 1)
-        script.fill(space, place, gen.pick(STEPS), budget // factor_at(limits, place) + 1, draw_seed(gen))
+        place = gen.take(shape.first_block, shape.first_block + 2 * shape.block_length - 1)
+        step = gen.pick(STEPS) * shape.block_length
+        script.fill(space, place, step, budget // factor_at(shape, limits, place) + 1, draw_seed(gen))
 
 
 # What a term may weigh where most places hold one, likewise.
@@ -183,16 +207,17 @@ DENSE_BUDGETS = (5 * 10**17, 4 * 10**17, 2 * 10**17, 10**15, 10**12, 10**9)
 
 def dense_table(script, gen, space, budget, quarters):
     """Good limits, and at so many quarters of the places drawn numbers, each weighing up to the budget in its own place."""
-    limits = good_limits(gen)
+    shape = script.shape
+    limits = good_limits(gen, shape)
     script.limits(space, limits)
-    for place in range(FIRST_BLOCK, FIRST_BLOCK + BLOCK_LENGTH):
+    for place in places_of_block(shape):
         if gen.take(1, 4) <= quarters:
-            script.fill(space, place, BLOCK_LENGTH, budget // factor_at(limits, place) + 1, draw_seed(gen))
+            script.fill(space, place, shape.block_length, budget // factor_at(shape, limits, place) + 1, draw_seed(gen))
 
 
 # --------------------------------------------------------------------- borders
 
-def last_accepted(table, variable, sign):
+def last_accepted(shape, table, variable, sign):
     """Largest size of an accepted move, by halving.
 
     A move by 4001 always pushes a good limit out, and acceptance never comes
@@ -201,7 +226,7 @@ def last_accepted(table, variable, sign):
     accepted, beyond = 0, 4001
     while beyond - accepted > 1:
         middle = (accepted + beyond) // 2
-        if tables.move_number(table, variable, sign * middle, TABLE_LENGTH) == 0:
+        if tables.move_number(shape, table, variable, sign * middle, shape.table_length) == 0:
             accepted = middle
         else:
             beyond = middle
@@ -212,24 +237,23 @@ def of_sign(gen, size):
     return -size if gen.take(0, 1) == 1 else size
 
 
-def full_number(limits, place):
+def full_number(shape, limits, place):
     """The largest number that a place takes alone."""
-    return WEIGHT_CAP // factor_at(limits, place)
+    return WEIGHT_CAP // factor_at(shape, limits, place)
 
 
-def rest_of_cap(limits, place):
+def rest_of_cap(shape, limits, place):
     """What the largest number leaves of the cap."""
-    return WEIGHT_CAP % factor_at(limits, place)
+    return WEIGHT_CAP % factor_at(shape, limits, place)
 
 
-def filling_place(place):
+def filling_place(shape, place):
     """The constant of a side group of the same block, never the place itself.
 
     Its number weighs its own magnitude, in both pieces.
     """
-    block = (place - FIRST_BLOCK) // BLOCK_LENGTH
-    filling = place_of(block, XI_GROUP, (0, 0))
-    return place_of(block, ZETA_GROUP, (0, 0)) if place == filling else filling
+    constants = [shape.place_of(block_of(shape, place), number, (0, 0)) for number in shape.side_groups]
+    return constants[1] if place == constants[0] else constants[0]
 
 
 def size_near(gen, full, way):
@@ -245,12 +269,13 @@ def one_in_each_block(script, gen, space, limits, way):
     and 2: all at the same place of their blocks, near the largest number and
     the largest number itself.
     """
+    shape = script.shape
     script.limits(space, limits)
-    same = gen.take(0, BLOCK_LENGTH - 1)
-    for start in range(FIRST_BLOCK, TABLE_LENGTH, BLOCK_LENGTH):
-        own = gen.take(0, BLOCK_LENGTH - 1)
+    same = gen.take(0, shape.block_length - 1)
+    for start in range(shape.first_block, shape.table_length, shape.block_length):
+        own = gen.take(0, shape.block_length - 1)
         place = start + (own if way == 0 else same)
-        script.set(space, place, of_sign(gen, size_near(gen, full_number(limits, place), way)))
+        script.set(space, place, of_sign(gen, size_near(gen, full_number(shape, limits, place), way)))
 
 
 # ---------------------------------------------------------------------- floats

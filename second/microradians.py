@@ -5,7 +5,7 @@ from draws import I64_MAX, I64_MIN, MASK
 from fixed_point import LAST_OF_LOW, MILLIRADIAN, RADIAN, ROWS, downward, highest, lowest
 from listed import ENDS
 from makers import ZEROS, inside_state, with_reading
-from model import ALPHA, GROUPS, HIGH_GROUP, LOW_GROUP, PUBLISHED_TABLE
+from model import ALPHA, CUMULUS, GROUPS, HIGH_GROUP, LOW_GROUP, PUBLISHED_TABLE
 
 ORDINARY = (123456, -234567, 98765, -345678, 456789)
 IN_HIGH_PIECE = (654321,) + ORDINARY[1:]
@@ -167,7 +167,7 @@ def whole_milliradians(script, gen):
     """The same state read in milliradians and in microradians."""
     script.published(0)
     for _ in range(120):
-        state = inside_state(gen, PUBLISHED_TABLE)
+        state = inside_state(gen, CUMULUS, PUBLISHED_TABLE)
         script.read(0, state)
         script.microradians([MILLIRADIAN * reading for reading in state])
 

@@ -1,17 +1,11 @@
-"""The printed Cumulus One polynomials and the table made from them.
+"""The printed Cumulus One polynomials, the shape of its tables, and the published one.
 
-The decimals stand here as text, one entry per equation number, and are turned
-into exact fractions.  Nothing in this file is rounded.
-
-Spelling of a polynomial: terms joined by '+' or '-', every part separated by
-blanks.  A term is a decimal number followed by its factors; a factor is one
-letter with an optional power digit:
+The decimals stand here as text, one entry per equation number, spelt as shapes.py says:
     a alpha   b beta   x xi (aileron)   e eta (elevator)   z zeta (rudder)
 """
 
-from fractions import Fraction
+from shapes import Group, Shape, published_table
 
-VARIABLE_LETTERS = "abxez"          # the order in which variables are numbered
 ALPHA, BETA, XI, ETA, ZETA = range(5)
 
 # alpha lowest, cut, highest; then lowest and highest of beta, xi, eta, zeta
@@ -89,20 +83,6 @@ EQUATIONS_OF_BLOCK = (
 )
 
 
-class Group:
-    """One polynomial group: where it sits in a block and what it is made of."""
-
-    def __init__(self, start, first, second, degree):
-        self.start = start
-        self.first = first
-        self.second = second
-        self.powers = [
-            (total - of_second, of_second)
-            for total in range(degree + 1)
-            for of_second in range(total + 1)
-        ]
-
-
 GROUPS = (
     Group(0, ALPHA, ETA, 3),        # low piece
     Group(10, ALPHA, ETA, 3),       # high piece
@@ -110,67 +90,13 @@ GROUPS = (
     Group(35, BETA, ZETA, 4),
 )
 LOW_GROUP, HIGH_GROUP, XI_GROUP, ZETA_GROUP = range(4)
+READING_OUTSIDE = (11, 12, 13, 14, 15)      # by variable number
 
-FIRST_BLOCK = 11
-BLOCK_LENGTH = 50
-BLOCK_COUNT = 6
-TABLE_LENGTH = FIRST_BLOCK + BLOCK_COUNT * BLOCK_LENGTH
+CUMULUS = Shape("abxez", GROUPS, 6, READING_OUTSIDE)
+CUMULUS.published = published_table(CUMULUS, PUBLISHED_LIMITS, PRINTED, EQUATIONS_OF_BLOCK)
 
-
-def parse_polynomial(text):
-    """Give {powers of the five variables: exact value} for a printed text."""
-    terms = {}
-    sign, value, powers = 1, None, [0] * 5
-
-    def close_term():
-        if value is not None:
-            key = tuple(powers)
-            if key in terms:
-                raise ValueError("a power is printed twice: " + text)
-            terms[key] = sign * value
-
-    for part in text.split():
-        if part in "+-":
-            close_term()
-            sign, value, powers = (1 if part == "+" else -1), None, [0] * 5
-        elif part[0] in VARIABLE_LETTERS:
-            powers[VARIABLE_LETTERS.index(part[0])] += int(part[1:] or "1")
-        else:
-            value = Fraction(part)
-    close_term()
-    return terms
-
-
-def stored_number(value, degree):
-    """Scale a printed value so that milliradians give units of 10^-17."""
-    units = value * 10**5
-    if units.denominator != 1:
-        raise ValueError("a printed value is finer than 10^-5")
-    return int(units) * 1000 ** (4 - degree)
-
-
-def place_of(block, group, powers):
-    """Place in the table of one term; powers are (of first, of second)."""
-    inside = GROUPS[group].powers.index(powers)
-    return FIRST_BLOCK + BLOCK_LENGTH * block + GROUPS[group].start + inside
-
-
-def build_published_table():
-    """Fill the 311 numbers from the printed text."""
-    table = list(PUBLISHED_LIMITS) + [0] * (BLOCK_COUNT * BLOCK_LENGTH)
-    for block, equations_by_group in enumerate(EQUATIONS_OF_BLOCK):
-        for group_number, equations in enumerate(equations_by_group):
-            group = GROUPS[group_number]
-            for equation in equations:
-                for powers, value in parse_polynomial(PRINTED[equation]).items():
-                    pair = (powers[group.first], powers[group.second])
-                    if sum(pair) != sum(powers):
-                        raise ValueError("a foreign variable in equation %d" % equation)
-                    place = place_of(block, group_number, pair)
-                    if table[place] != 0:
-                        raise ValueError("two equations fill place %d" % place)
-                    table[place] = stored_number(value, sum(pair))
-    return table
-
-
-PUBLISHED_TABLE = tuple(build_published_table())
+# what this shape comes to, by name
+FIRST_BLOCK, BLOCK_LENGTH, BLOCK_COUNT = CUMULUS.first_block, CUMULUS.block_length, CUMULUS.block_count
+TABLE_LENGTH, READ_LENGTH = CUMULUS.table_length, CUMULUS.read_length
+LOWEST, HIGHEST = CUMULUS.lowest, CUMULUS.highest
+PUBLISHED_TABLE = CUMULUS.published

@@ -1,22 +1,33 @@
 """A script for the desk, answered while it is written.
 
 A line that is added is answered at once by this program's own desk, so that what follows can look at the spaces.
-A section begins with a title, a line that starts with `## `, and sets every space that it uses.
+A section begins with a title, a line that starts with `## `, and sets every space that it uses. The operations are those of one
+shape, and of another in the same script told by of().
 """
 
+from copy import copy
+
 from desk import Desk
-from model import TABLE_LENGTH
+from model import CUMULUS, READ_LENGTH
 
 TITLE = b"## "
 OPERATIONS = ("publish", "move", "read", "floats", "microradians")
-FINE_ROOM = 6
+# what the names of a shape's operations begin with
+PREFIXES = {CUMULUS: ""}
 
 
 class Script:
     def __init__(self):
+        self.shape = CUMULUS
         self.desk = Desk()
         self.lines = []
         self.answers = []
+
+    def of(self, shape):
+        """The same script, with the operations and tables of another shape."""
+        other = copy(self)
+        other.shape = shape
+        return other
 
     def line(self, line):
         """Add a line of any bytes, and give its answer."""
@@ -39,20 +50,23 @@ class Script:
 
     # operations
 
+    def operate(self, name, *words):
+        return self.tell(PREFIXES[self.shape] + name, *words)
+
     def publish(self, into):
-        self.tell("publish", into)
+        self.operate("publish", into)
 
     def move(self, space, variable, shift, into):
         """Whether the move was accepted."""
-        return self.tell("move", space, variable, shift, into).startswith(b"0 ")
+        return self.operate("move", space, variable, shift, into).startswith(b"0 ")
 
-    def read(self, space, readings, room=FINE_ROOM):
-        self.tell("read", space, room, *readings)
+    def read(self, space, readings, room=None):
+        self.operate("read", space, self.shape.read_length if room is None else room, *readings)
 
     def floats(self, space, patterns):
         self.tell("floats", space, *("%x" % bits for bits in patterns))
 
-    def microradians(self, readings, room=FINE_ROOM):
+    def microradians(self, readings, room=READ_LENGTH):
         self.tell("microradians", room, *readings)
 
     # spaces
@@ -75,8 +89,9 @@ class Script:
     def sum(self, space):
         self.tell("sum", space)
 
-    def zeros(self, space, length=TABLE_LENGTH):
+    def zeros(self, space, length=None):
         """A space of zeros; the length of 0 in between clears what stood there."""
+        length = self.shape.table_length if length is None else length
         self.length(space, 0)
         if length:
             self.length(space, length)
@@ -90,7 +105,7 @@ class Script:
 
     def published(self, space):
         """The published table, whatever length the space had."""
-        self.length(space, TABLE_LENGTH)
+        self.length(space, self.shape.table_length)
         self.publish(space)
 
     # the whole

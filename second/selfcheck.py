@@ -15,42 +15,44 @@ import trimcard
 from desk import lent
 from draws import Generator
 from makers import (
-    NARROW_LIMITS, SPECIAL_BITS, filling_place, full_number, good_limits, inside_float_state, inside_state, move_factor_at,
+    NARROW_LIMITS, SPECIAL_BITS, any_variable, filling_place, full_number, good_limits, inside_float_state, inside_state, move_factor_at,
     one_in_each_block, random_table, rest_of_cap, shifted, with_reading,
 )
-from model import BLOCK_COUNT, EQUATIONS_OF_BLOCK, FIRST_BLOCK, GROUPS, PRINTED, PUBLISHED_TABLE, parse_polynomial, place_of
+from model import BLOCK_COUNT, CUMULUS, EQUATIONS_OF_BLOCK, FIRST_BLOCK, GROUPS, PRINTED, PUBLISHED_TABLE
 from script import Script
+from shapes import parse_polynomial
 from wrong import replaced
 
+SHAPES = (CUMULUS,)
 X, Z, L, M = 0, 2, 3, 4
 T = PUBLISHED_TABLE
-TERMS = {equation: parse_polynomial(text) for equation, text in PRINTED.items()}
+TERMS = {equation: parse_polynomial(text, CUMULUS.letters) for equation, text in PRINTED.items()}
 
 
-def zero_table(limits):
-    return tuple(limits) + (0,) * 300
+def zero_table(limits, shape=CUMULUS):
+    return tuple(limits) + (0,) * (shape.table_length - shape.first_block)
 
 
 def with_place(table, place, value):
     return table[:place] + (value,) + table[place + 1:]
 
 
-def soundness(table):
+def soundness(table, shape=CUMULUS):
     """0, 3 or 4 for a table of the right length."""
-    return tables.first_that_holds(tables.READ_ORDER[2:4], tables.table_tests(table))
+    return tables.first_that_holds(tables.READ_ORDER[2:4], tables.table_tests(shape, table))
 
 
-def made(maker, *arguments):
-    """The table that a maker leaves in a space."""
-    script = Script()
+def made(maker, shape, *arguments):
+    """The table of a shape that a maker leaves in a space."""
+    script = Script().of(shape)
     maker(script, *arguments)
     return script.table(0)
 
 
-def read(table, readings):
-    output = lent(6)
-    number = tables.read(table, readings, output)
-    assert number == 0 or output == lent(6)
+def read(table, readings, shape=CUMULUS):
+    output = lent(shape.read_length)
+    number = tables.read(shape, table, readings, output)
+    assert number == 0 or output == lent(shape.read_length)
     return number, output
 
 
@@ -60,10 +62,10 @@ def value(table, coefficient, readings):
     return output[coefficient]
 
 
-def move(table, variable, shift):
-    output = lent(311)
-    number = tables.move(table, variable, shift, output)
-    assert number == 0 or output == lent(311)
+def move(table, variable, shift, shape=CUMULUS):
+    output = lent(shape.table_length)
+    number = tables.move(shape, table, variable, shift, output)
+    assert number == 0 or output == lent(shape.table_length)
     return number, tuple(output)
 
 
@@ -83,7 +85,7 @@ def check_printed_text():
     place = FIRST_BLOCK
     for _ in range(BLOCK_COUNT):
         for group in GROUPS:
-            assert place == place_of((place - 11) // 50, GROUPS.index(group), (0, 0))
+            assert place == CUMULUS.place_of((place - 11) // 50, GROUPS.index(group), (0, 0))
             for p, q in group.powers:
                 assert T[place] % 1000 ** (4 - p - q) == 0
                 place += 1
@@ -120,7 +122,7 @@ def check_published_reads():
     """Reads of the published table against the printed equations themselves, term by term in radians."""
     gen = Generator(105)
     for _ in range(60):
-        state = inside_state(gen, T)
+        state = inside_state(gen, CUMULUS, T)
         exact = printed_values(state[0] <= 313, [Fraction(reading, 1000) for reading in state])
         assert read(T, state) == (0, [answer * 10**17 for answer in exact])
 
@@ -149,7 +151,7 @@ def check_values_8_and_9():
     assert moved[:3] == (-250, 213, 900) and moved[3:11] == T[3:11]
     for powers, stored in (((0, 0), 3504 * 10**12), ((1, 0), 52700 * 10**9),
                            ((2, 0), -194800 * 10**6), ((3, 0), -1148000 * 10**3)):
-        assert moved[place_of(X, 0, powers)] == stored
+        assert moved[CUMULUS.place_of(X, 0, powers)] == stored
     assert move(T, 0, -1000)[0] == 7
     assert move(T, 0, -1001)[0] == 6
 
@@ -159,7 +161,7 @@ def check_values_10_and_11():
         lone = with_place(zero_table(limits), 11, 9 * 10**18)
         assert soundness(lone) == 0
         assert soundness(with_place(lone, 11, 9 * 10**18 + 1)) == 4
-    narrow = with_place(zero_table(NARROW_LIMITS), place_of(X, 0, (3, 0)), 9 * 10**12)
+    narrow = with_place(zero_table(NARROW_LIMITS), CUMULUS.place_of(X, 0, (3, 0)), 9 * 10**12)
     assert soundness(narrow) == 0 and move(narrow, 0, 0)[0] == 0
     assert move(narrow, 0, 100)[0] == 7 and move(narrow, 0, -100)[0] == 7
 
@@ -226,34 +228,35 @@ def check_promised_moves():
             assert number == 0 and soundness(moved) == 0
 
 
-def check_one_move(gen, table, variable, shift):
+def check_one_move(gen, shape, table, variable, shift):
     """Whatever an accepted move promises, on a few states and second moves."""
-    number, moved = move(table, variable, shift)
+    number, moved = move(table, variable, shift, shape)
     if number != 0:
         return False
-    assert soundness(moved) == 0
+    assert soundness(moved, shape) == 0
     assert all(-(1 << 63) <= x < 1 << 63 for x in moved)
     for _ in range(3):
-        state = inside_state(gen, table)
-        assert read(table, state) == read(moved, shifted(state, variable, shift))
-        outside = with_reading(variable, table[tables.HIGHEST[variable]] + 1)
-        assert (read(table, outside)[0]
-                == read(moved, shifted(outside, variable, shift))[0])
-    check_second_moves(gen, table, variable, shift, moved)
+        state = inside_state(gen, shape, table)
+        assert read(table, state, shape) == read(moved, shifted(state, variable, shift), shape)
+        outside = [0] * shape.variable_count
+        outside[variable] = table[shape.highest[variable]] + 1
+        assert (read(table, outside, shape)[0]
+                == read(moved, shifted(outside, variable, shift), shape)[0])
+    check_second_moves(gen, shape, table, variable, shift, moved)
     return True
 
 
-def check_second_moves(gen, table, variable, shift, moved):
+def check_second_moves(gen, shape, table, variable, shift, moved):
     """Back, on in the same variable, and in another one before or after."""
-    back, restored = move(moved, variable, -shift)
+    back, restored = move(moved, variable, -shift, shape)
     assert back in (0, 7) and (back == 7 or restored == table)
     again = gen.take(-50, 50)
-    check_same(move(moved, variable, again), move(table, variable, shift + again))
-    other = (variable + gen.take(1, 4)) % 5
+    check_same(move(moved, variable, again, shape), move(table, variable, shift + again, shape))
+    other = (variable + gen.take(1, shape.variable_count - 1)) % shape.variable_count
     by = gen.take(-50, 50)
-    first_other, aside = move(table, other, by)
+    first_other, aside = move(table, other, by, shape)
     if first_other == 0:
-        check_same(move(moved, other, by), move(aside, variable, shift))
+        check_same(move(moved, other, by, shape), move(aside, variable, shift, shape))
 
 
 def check_same(one, other):
@@ -262,71 +265,92 @@ def check_same(one, other):
         assert one == other
 
 
-def check_moves():
+def check_moves_of(shape):
     gen = Generator(102)
     accepted = 0
     for _ in range(120):
-        variable = gen.take(0, 4)
-        accepted += check_one_move(gen, T, variable, gen.take(-300, 300))
+        variable = any_variable(gen, shape)
+        accepted += check_one_move(gen, shape, shape.published, variable, gen.take(-300, 300))
     for _ in range(120):
-        table = made(random_table, gen, 0)
-        variable = gen.take(0, 4)
-        accepted += check_one_move(gen, table, variable, gen.take(-200, 200))
+        table = made(random_table, shape, gen, 0)
+        variable = any_variable(gen, shape)
+        accepted += check_one_move(gen, shape, table, variable, gen.take(-200, 200))
     assert accepted > 120
     for _ in range(60):
-        table = made(random_table, gen, 0)
-        sound = soundness(table)
+        table = made(random_table, shape, gen, 0)
+        sound = soundness(table, shape)
         assert sound in (0, 4)
-        for variable in range(5):
-            number, same = move(table, variable, 0)
+        for variable in range(shape.variable_count):
+            number, same = move(table, variable, 0, shape)
             assert number == sound and (number or same == table)
 
 
+def check_moves():
+    for shape in SHAPES:
+        check_moves_of(shape)
+
+
 def check_refusal_order():
-    bad = with_place(T, 3, 501)
-    assert tables.read(T[:310], [0] * 5, []) == 1
-    assert tables.read(bad, [0] * 5, []) == 2
-    assert tables.read(bad, [1001] * 5, lent(6)) == 3
-    heavy = with_place(T, 310, -(1 << 63))
-    assert tables.read(heavy, [1001] * 5, lent(6)) == 4
-    assert tables.publish(lent(310)) == 2
-    assert tables.move(T[:310], 9, 0, []) == 1
-    assert tables.move(bad, 9, 0, []) == 2
-    assert tables.move(bad, 9, 0, lent(311)) == 5
-    assert tables.move(bad, 0, 5000, lent(311)) == 3
-    assert tables.move(heavy, 0, 5000, lent(311)) == 4
-    for place in range(FIRST_BLOCK, 311):
-        assert soundness(with_place(zero_table(NARROW_LIMITS), place,
-                                           -(1 << 63))) == 4
+    for shape in SHAPES:
+        check_order_of(shape)
+
+
+def check_order_of(shape):
+    """The refusals of each operation in their order, and the smallest number at each place."""
+    table, state, length = shape.published, [1001] * shape.variable_count, shape.table_length
+    bad, heavy = with_place(table, 3, table[4] + 1), with_place(table, length - 1, -(1 << 63))
+    assert tables.read(shape, table[:-1], state, []) == 1
+    assert tables.read(shape, bad, state, []) == 2
+    assert tables.read(shape, bad, state, lent(shape.read_length)) == 3
+    assert tables.read(shape, heavy, state, lent(shape.read_length)) == 4
+    assert tables.publish(shape, lent(length - 1)) == 2
+    assert tables.move(shape, table[:-1], 9, 0, []) == 1
+    assert tables.move(shape, bad, 9, 0, []) == 2
+    assert tables.move(shape, bad, 9, 0, lent(length)) == 5
+    assert tables.move(shape, bad, 0, 5000, lent(length)) == 3
+    assert tables.move(shape, heavy, 0, 5000, lent(length)) == 4
+    narrow = zero_table(NARROW_LIMITS[:shape.first_block], shape)
+    for place in range(shape.first_block, length):
+        assert soundness(with_place(narrow, place, -(1 << 63)), shape) == 4
+
+
+def check_tables_at_cap_of(shape):
+    """A full place and what fills the rest weigh the cap, and one more is refused."""
+    gen = Generator(104)
+    for place in range(shape.first_block, shape.table_length):
+        limits = good_limits(gen, shape)
+        size, rest = full_number(shape, limits, place), rest_of_cap(shape, limits, place)
+        filling = filling_place(shape, place)
+        lone = with_place(zero_table(limits, shape), place, -size)
+        full = with_place(lone, filling, rest)
+        assert max(tables.weights(shape, full)) == 9 * 10**18
+        assert soundness(full, shape) == soundness(lone, shape) == 0
+        assert soundness(with_place(full, filling, -rest - 1), shape) == 4
+        assert soundness(with_place(lone, place, size + 1), shape) == 4
+        assert soundness(made(one_in_each_block, shape, gen, 0, limits, place % 3), shape) == 0
 
 
 def check_tables_at_cap():
-    """A full place and what fills the rest weigh the cap, and one more is refused."""
-    gen = Generator(104)
-    for place in range(FIRST_BLOCK, 311):
-        limits = good_limits(gen)
-        size, rest = full_number(limits, place), rest_of_cap(limits, place)
-        filling = filling_place(place)
-        lone = with_place(zero_table(limits), place, -size)
-        full = with_place(lone, filling, rest)
-        assert max(tables.weights(full)) == 9 * 10**18
-        assert soundness(full) == soundness(lone) == 0
-        assert soundness(with_place(full, filling, -rest - 1)) == 4
-        assert soundness(with_place(lone, place, size + 1)) == 4
-        assert soundness(made(one_in_each_block, gen, 0, limits, place % 3)) == 0
+    for shape in SHAPES:
+        check_tables_at_cap_of(shape)
+
+
+def check_moves_at_cap_of(shape):
+    """A number whose move weighs the cap is moved, and one more is refused."""
+    gen = Generator(106)
+    for place in range(shape.first_block, shape.table_length, 7):
+        limits = good_limits(gen, shape)
+        variable, shift = any_variable(gen, shape), gen.take(-30, 30)
+        factor = move_factor_at(shape, limits, place, variable, shift)
+        lone = with_place(zero_table(limits, shape), place, 9 * 10**18 // factor)
+        full = with_place(lone, filling_place(shape, place), 9 * 10**18 % factor)
+        assert max(tables.move_weights(shape, full, variable, shift)) == 9 * 10**18
+        assert move(full, variable, shift, shape)[0] in (0, 6)
 
 
 def check_moves_at_cap():
-    """A number whose move weighs the cap is moved, and one more is refused."""
-    gen = Generator(106)
-    for place in range(FIRST_BLOCK, 311, 7):
-        limits = good_limits(gen)
-        variable, shift = gen.take(0, 4), gen.take(-30, 30)
-        factor = move_factor_at(limits, place, variable, shift)
-        lone = with_place(zero_table(limits), place, 9 * 10**18 // factor)
-        full = with_place(lone, filling_place(place), 9 * 10**18 % factor)
-        assert max(tables.move_weights(full, variable, shift)) == 9 * 10**18
-        assert move(full, variable, shift)[0] in (0, 6)
+    for shape in SHAPES:
+        check_moves_at_cap_of(shape)
 
 
 def check_float_reads():
@@ -370,7 +394,7 @@ def check_whole_milliradians():
     """At whole milliradians the read in microradians answers what the read in milliradians does, but for its roundings."""
     gen = Generator(108)
     for _ in range(300):
-        state = inside_state(gen, T)
+        state = inside_state(gen, CUMULUS, T)
         for fine, answer in zip(fine_read([1000 * reading for reading in state]), read(T, state)[1]):
             assert abs(fine * 10**8 - answer) <= 691 * 10**6
 

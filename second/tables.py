@@ -1,4 +1,4 @@
-"""Whole-number answers: soundness, publish, read and move of a table.
+"""Whole-number answers: soundness, publish, read and move of a table, for every shape.
 
 Everything is done on plain Python whole numbers, so nothing here can overflow;
 the arguments are meant to be 64-bit numbers, and a table is a tuple of them.  An
@@ -6,17 +6,14 @@ operation gives back its number and writes into the list lent to it only when th
 number is 0.
 
 What is remembered (lru_cache) is worked out from the arguments alone, so it only
-saves time; whoever replaces a function here has to call forget().
+saves time; whoever replaces a function here or changes a shape has to call forget().
 """
 
 from functools import lru_cache
 from math import comb
 from operator import mul
 
-from model import (
-    ALPHA, BLOCK_COUNT, BLOCK_LENGTH, FIRST_BLOCK, GROUPS, HIGH_GROUP,
-    LOW_GROUP, PUBLISHED_TABLE, TABLE_LENGTH, XI_GROUP, ZETA_GROUP,
-)
+from shapes import ALPHA, ALPHA_CUT, HIGH_GROUP, LOW_GROUP, PIECES
 
 DONE = 0
 WRONG_TABLE_LENGTH = 1
@@ -26,27 +23,15 @@ TOO_HEAVY = 4
 NO_SUCH_VARIABLE = 5
 MOVED_LIMIT_OUTSIDE = 6
 MOVE_TOO_HEAVY = 7
-READING_OUTSIDE = (11, 12, 13, 14, 15)      # by variable number
 
-READ_ORDER = (WRONG_TABLE_LENGTH, WRONG_OUTPUT_LENGTH, LIMITS_NOT_GOOD, TOO_HEAVY) + READING_OUTSIDE
+# what a read looks at before its readings
+READ_ORDER = (WRONG_TABLE_LENGTH, WRONG_OUTPUT_LENGTH, LIMITS_NOT_GOOD, TOO_HEAVY)
 MOVE_ORDER = (WRONG_TABLE_LENGTH, WRONG_OUTPUT_LENGTH, NO_SUCH_VARIABLE, LIMITS_NOT_GOOD, TOO_HEAVY,
               MOVED_LIMIT_OUTSIDE, MOVE_TOO_HEAVY)
 
 WEIGHT_CAP = 9 * 10**18
 MOVE_WEIGHT_CAP = WEIGHT_CAP
 LIMIT_CAP = 2000
-READ_LENGTH = 6
-VARIABLE_COUNT = 5
-
-ALPHA_CUT = 1
-# places of the lowest and highest limit, by variable number
-LOWEST = (0, 3, 5, 7, 9)
-HIGHEST = (2, 4, 6, 8, 10)
-# places that go along when a variable's datum moves
-LIMIT_PLACES = ((0, 1, 2), (3, 4), (5, 6), (7, 8), (9, 10))
-
-PIECES = (LOW_GROUP, HIGH_GROUP)
-SIDE_GROUPS = (XI_GROUP, ZETA_GROUP)
 
 
 def first_that_holds(order, tests):
@@ -59,21 +44,21 @@ def first_that_holds(order, tests):
 
 # ---------------------------------------------------------------------- limits
 
-def limits_of(table):
-    return list(table[:FIRST_BLOCK])
+def limits_of(shape, table):
+    return list(table[:shape.first_block])
 
 
-def limits_are_good(limits):
+def limits_are_good(shape, limits):
     if any(not -LIMIT_CAP <= limit <= LIMIT_CAP for limit in limits):
         return False
     if not limits[0] <= limits[ALPHA_CUT] < limits[2]:
         return False
-    return all(limits[LOWEST[v]] <= limits[HIGHEST[v]] for v in range(1, VARIABLE_COUNT))
+    return all(limits[shape.lowest[v]] <= limits[shape.highest[v]] for v in range(1, shape.variable_count))
 
 
-def moved_limits(limits, variable, shift):
+def moved_limits(shape, limits, variable, shift):
     moved = list(limits)
-    for place in LIMIT_PLACES[variable]:
+    for place in shape.limit_places[variable]:
         moved[place] -= shift
     return moved
 
@@ -83,59 +68,47 @@ def reach_between(lowest, highest):
     return max(1, abs(lowest), abs(highest))
 
 
-def reaches(limits, piece):
-    """The five reaches; alpha's depends on the piece."""
+def reaches(shape, limits, piece):
+    """The reach of each variable; alpha's depends on the piece."""
     if piece == LOW_GROUP:
         alpha = reach_between(limits[0], limits[ALPHA_CUT])
     else:
         alpha = reach_between(limits[ALPHA_CUT] + 1, limits[2])
-    others = [reach_between(limits[LOWEST[v]], limits[HIGHEST[v]])
-              for v in range(1, VARIABLE_COUNT)]
+    others = [reach_between(limits[shape.lowest[v]], limits[shape.highest[v]])
+              for v in range(1, shape.variable_count)]
     return [alpha] + others
 
 
 # ------------------------------------------------------------------------ sums
 
-def part_of(block, group_number):
-    """Where a group of a block stands in a table."""
-    group = GROUPS[group_number]
-    start = FIRST_BLOCK + BLOCK_LENGTH * block + group.start
-    return slice(start, start + len(group.powers))
-
-
-PARTS = [[part_of(block, group) for group in range(len(GROUPS))] for block in range(BLOCK_COUNT)]
-
-
 @lru_cache(maxsize=4096)
-def products(group_number, first, second):
+def products(group, first, second):
     """First to its power times second to its power, for each place of a group."""
     of_first = [first**power for power in range(5)]
     of_second = [second**power for power in range(5)]
-    return [of_first[p] * of_second[q] for p, q in GROUPS[group_number].powers]
+    return [of_first[p] * of_second[q] for p, q in group.powers]
 
 
-def sums(numbers, piece, five):
-    """For each block: the numbers of the piece's group and of both side groups, each
-    times the powers of its two of the five."""
-    groups = [(group, products(group, five[GROUPS[group].first], five[GROUPS[group].second]))
-              for group in (piece,) + SIDE_GROUPS]
-    return [sum(sum(map(mul, numbers[PARTS[block][group]], factors)) for group, factors in groups)
-            for block in range(BLOCK_COUNT)]
+def sums(shape, numbers, piece, values):
+    """For each block: the numbers of the piece's group and of the side groups, each times the powers of its two of the values."""
+    factors = [(number, products(shape.groups[number], values[shape.groups[number].first], values[shape.groups[number].second]))
+               for number in (piece,) + shape.side_groups]
+    return [sum(sum(map(mul, numbers[parts[number]], of_group)) for number, of_group in factors) for parts in shape.parts]
 
 
 def magnitudes(table):
     return [abs(number) for number in table]
 
 
-def weights(table):
-    """The twelve weights, those of the low piece before those of the high one."""
-    limits, stored = limits_of(table), magnitudes(table)
-    return [weight for piece in PIECES for weight in sums(stored, piece, reaches(limits, piece))]
+def weights(shape, table):
+    """The weight of each block in each piece, those of the low piece before those of the high one."""
+    limits, stored = limits_of(shape, table), magnitudes(table)
+    return [weight for piece in PIECES for weight in sums(shape, stored, piece, reaches(shape, limits, piece))]
 
 
 @lru_cache(maxsize=256)
-def is_light(table):
-    return all(weight <= WEIGHT_CAP for weight in weights(table))
+def is_light(shape, table):
+    return all(weight <= WEIGHT_CAP for weight in weights(shape, table))
 
 
 # --------------------------------------------------------------------- reading
@@ -144,37 +117,42 @@ def piece_at(table, alpha):
     return LOW_GROUP if alpha <= table[ALPHA_CUT] else HIGH_GROUP
 
 
-def all_coefficients(table, readings):
-    return sums(table, piece_at(table, readings[ALPHA]), readings)
+def all_coefficients(shape, table, readings):
+    return sums(shape, table, piece_at(table, readings[ALPHA]), readings)
 
 
-def is_outside(table, variable, reading):
-    return not table[LOWEST[variable]] <= reading <= table[HIGHEST[variable]]
+def is_outside(shape, table, variable, reading):
+    return not table[shape.lowest[variable]] <= reading <= table[shape.highest[variable]]
 
 
-def table_tests(table):
+def table_tests(shape, table):
     return {
-        WRONG_TABLE_LENGTH: lambda: len(table) != TABLE_LENGTH,
-        LIMITS_NOT_GOOD: lambda: not limits_are_good(limits_of(table)),
-        TOO_HEAVY: lambda: not is_light(table),
+        WRONG_TABLE_LENGTH: lambda: len(table) != shape.table_length,
+        LIMITS_NOT_GOOD: lambda: not limits_are_good(shape, limits_of(shape, table)),
+        TOO_HEAVY: lambda: not is_light(shape, table),
     }
 
 
-def read(table, readings, output):
-    tests = table_tests(table)
-    tests[WRONG_OUTPUT_LENGTH] = lambda: len(output) != READ_LENGTH
-    for v, number in enumerate(READING_OUTSIDE):
-        tests[number] = lambda v=v: is_outside(table, v, readings[v])
-    number = first_that_holds(READ_ORDER, tests)
+def readings_order(shape):
+    """The refusals of readings, in their order."""
+    return shape.reading_outside
+
+
+def read(shape, table, readings, output):
+    tests = table_tests(shape, table)
+    tests[WRONG_OUTPUT_LENGTH] = lambda: len(output) != shape.read_length
+    for v, number in enumerate(shape.reading_outside):
+        tests[number] = lambda v=v: is_outside(shape, table, v, readings[v])
+    number = first_that_holds(READ_ORDER + readings_order(shape), tests)
     if number == DONE:
-        output[:] = all_coefficients(table, readings)
+        output[:] = all_coefficients(shape, table, readings)
     return number
 
 
-def publish(output):
-    if len(output) != TABLE_LENGTH:
+def publish(shape, output):
+    if len(output) != shape.table_length:
         return WRONG_OUTPUT_LENGTH
-    output[:] = PUBLISHED_TABLE
+    output[:] = shape.published
     return DONE
 
 
@@ -184,19 +162,19 @@ def move_reach(new_reach, shift):
     return new_reach + abs(shift)
 
 
-def move_weights(table, variable, shift):
-    """The twelve sums that decide whether a move may be multiplied out.
+def move_weights(shape, table, variable, shift):
+    """The sums, one for each weight, that decide whether a move may be multiplied out.
 
     The old magnitudes are weighed where the moved variable reaches as far as
     its new reach and the shift together.
     """
-    old, stored = limits_of(table), magnitudes(table)
-    new = moved_limits(old, variable, shift)
+    old, stored = limits_of(shape, table), magnitudes(table)
+    new = moved_limits(shape, old, variable, shift)
     found = []
     for piece in PIECES:
-        radii = reaches(old, piece)
-        radii[variable] = move_reach(reaches(new, piece)[variable], shift)
-        found += sums(stored, piece, radii)
+        radii = reaches(shape, old, piece)
+        radii[variable] = move_reach(reaches(shape, new, piece)[variable], shift)
+        found += sums(shape, stored, piece, radii)
     return found
 
 
@@ -227,49 +205,52 @@ def multiplied_out(numbers, goes_to):
     return new
 
 
-def moved_groups(variable):
+def moved_groups(shape, variable):
     """The numbers of the groups that have the variable."""
-    return [number for number, group in enumerate(GROUPS) if variable in (group.first, group.second)]
+    return [number for number, group in enumerate(shape.groups) if variable in (group.first, group.second)]
 
 
-def moved_table(table, variable, shift):
+def moved_table(shape, table, variable, shift):
     """The table after a move, with no refusals looked at."""
-    result = moved_limits(limits_of(table), variable, shift) + list(table[FIRST_BLOCK:])
-    for number in moved_groups(variable):
-        goes_to = group_moved(GROUPS[number], variable, shift)
-        for block in range(BLOCK_COUNT):
-            part = PARTS[block][number]
-            result[part] = multiplied_out(table[part], goes_to)
+    result = moved_limits(shape, limits_of(shape, table), variable, shift) + list(table[shape.first_block:])
+    for number in moved_groups(shape, variable):
+        goes_to = group_moved(shape.groups[number], variable, shift)
+        for parts in shape.parts:
+            result[parts[number]] = multiplied_out(table[parts[number]], goes_to)
     return result
 
 
-def moved_limit_outside(table, variable, shift):
-    new = moved_limits(limits_of(table), variable, shift)
-    return any(not -LIMIT_CAP <= new[place] <= LIMIT_CAP for place in LIMIT_PLACES[variable])
+def is_no_variable(shape, variable):
+    return variable >= shape.variable_count
 
 
-def move_is_too_heavy(table, variable, shift):
-    return any(weight > MOVE_WEIGHT_CAP for weight in move_weights(table, variable, shift))
+def moved_limit_outside(shape, table, variable, shift):
+    new = moved_limits(shape, limits_of(shape, table), variable, shift)
+    return any(not -LIMIT_CAP <= new[place] <= LIMIT_CAP for place in shape.limit_places[variable])
 
 
-def move_number(table, variable, shift, output_length):
+def move_is_too_heavy(shape, table, variable, shift):
+    return any(weight > MOVE_WEIGHT_CAP for weight in move_weights(shape, table, variable, shift))
+
+
+def move_number(shape, table, variable, shift, output_length):
     """The number a move gives back, without working it out."""
-    tests = table_tests(table)
-    tests[WRONG_OUTPUT_LENGTH] = lambda: output_length != TABLE_LENGTH
-    tests[NO_SUCH_VARIABLE] = lambda: variable >= VARIABLE_COUNT
-    tests[MOVED_LIMIT_OUTSIDE] = lambda: moved_limit_outside(table, variable, shift)
-    tests[MOVE_TOO_HEAVY] = lambda: move_is_too_heavy(table, variable, shift)
+    tests = table_tests(shape, table)
+    tests[WRONG_OUTPUT_LENGTH] = lambda: output_length != shape.table_length
+    tests[NO_SUCH_VARIABLE] = lambda: is_no_variable(shape, variable)
+    tests[MOVED_LIMIT_OUTSIDE] = lambda: moved_limit_outside(shape, table, variable, shift)
+    tests[MOVE_TOO_HEAVY] = lambda: move_is_too_heavy(shape, table, variable, shift)
     return first_that_holds(MOVE_ORDER, tests)
 
 
-def move(table, variable, shift, output):
-    number = move_number(table, variable, shift, len(output))
+def move(shape, table, variable, shift, output):
+    number = move_number(shape, table, variable, shift, len(output))
     if number == DONE:
-        output[:] = moved_table(table, variable, shift)
+        output[:] = moved_table(shape, table, variable, shift)
     return number
 
 
 def forget():
-    """Forget what was worked out, for when a function above has been replaced."""
+    """Forget what was worked out, for when a function above or a shape has been changed."""
     products.cache_clear()
     is_light.cache_clear()

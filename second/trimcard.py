@@ -3,8 +3,8 @@
 import re
 
 from desk import split_lines
-from model import PUBLISHED_TABLE
-from tables import READ_LENGTH, read
+from model import CUMULUS, PUBLISHED_TABLE, READ_LENGTH
+from tables import read
 
 MALFORMED = 31
 
@@ -16,7 +16,7 @@ LINE = re.compile(NUMBER + rb"(?: " + NUMBER + rb"){4}")
 def answer_line(line):
     answers = [0] * READ_LENGTH
     if LINE.fullmatch(line):
-        number = read(PUBLISHED_TABLE, [int(part) for part in line.split(b" ")], answers)
+        number = read(CUMULUS, PUBLISHED_TABLE, [int(part) for part in line.split(b" ")], answers)
     else:
         number = MALFORMED
     return b" ".join(b"%d" % value for value in [number] + answers) + b"\n"

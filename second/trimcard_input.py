@@ -2,8 +2,7 @@
 
 from draws import Generator
 from makers import ZEROS, corners, inside_state, spoil_state, with_reading
-from model import PUBLISHED_TABLE
-from tables import HIGHEST, LOWEST
+from model import CUMULUS, HIGHEST, LOWEST, PUBLISHED_TABLE
 
 
 def number_line(readings):
@@ -19,7 +18,7 @@ def edge_lines():
             lines.append(number_line(with_reading(v, value)))
     for alpha in (312, 313, 314, 315):
         lines.append(number_line(with_reading(0, alpha)))
-    lines += map(number_line, corners(t))
+    lines += map(number_line, corners(CUMULUS, t))
     lines.append(number_line([1001, 501, 201, 401, 501]))
     lines.append(number_line([0, 0, -201, 0, 501]))
     return lines
@@ -78,9 +77,9 @@ def generated_lines():
     gen = Generator(11)
     lines = []
     for turn in range(300):
-        state = inside_state(gen, PUBLISHED_TABLE)
+        state = inside_state(gen, CUMULUS, PUBLISHED_TABLE)
         if turn % 4 == 3:
-            state = spoil_state(gen, PUBLISHED_TABLE, state)
+            state = spoil_state(gen, CUMULUS, PUBLISHED_TABLE, state)
         lines.append(number_line(state))
     return lines
 

@@ -14,11 +14,9 @@ import fixed_point
 import tables
 from door import POSITIVE_ZERO, SIGN_BIT
 from draws import I64_MIN, MASK, signed
-from model import (
-    ALPHA, BETA, BLOCK_COUNT, BLOCK_LENGTH, ETA, FIRST_BLOCK, GROUPS, HIGH_GROUP, LOW_GROUP, PUBLISHED_LIMITS, PUBLISHED_TABLE,
-    TABLE_LENGTH, XI_GROUP, ZETA_GROUP,
-)
-from tables import LOWEST, HIGHEST, PIECES, READING_OUTSIDE, SIDE_GROUPS
+from makers import places_of_block
+from model import ALPHA, BETA, CUMULUS, ETA, READING_OUTSIDE, READ_LENGTH, TABLE_LENGTH, XI_GROUP, ZETA_GROUP
+from shapes import ALPHA_CUT, HIGH_GROUP, LOW_GROUP, PIECES
 
 # The right functions, for wrong ones that differ from them in one respect.
 right_is_finite = door.is_finite
@@ -60,6 +58,10 @@ def in_tables(name, replacement):
     return tables, name, replacement
 
 
+def in_shape(shape, name, replacement):
+    return shape, name, replacement
+
+
 def in_door(name, replacement):
     return door, name, replacement
 
@@ -70,24 +72,23 @@ def in_fixed_point(name, replacement):
 
 # ---------------------------------------------------------- the published table
 
-def published_with(place, number):
-    table = PUBLISHED_TABLE[:place] + (number,) + PUBLISHED_TABLE[place + 1:]
-    return in_tables("PUBLISHED_TABLE", table)
+def published_with(shape, place, number):
+    return in_shape(shape, "published", shape.published[:place] + (number,) + shape.published[place + 1:])
 
 
-def low_and_high_exchanged():
+def low_and_high_exchanged(shape):
     """The published table with each block's two groups of alpha and eta in the other order."""
-    table = list(PUBLISHED_TABLE)
-    for parts in tables.PARTS:
+    table = list(shape.published)
+    for parts in shape.parts:
         table[parts[LOW_GROUP]], table[parts[HIGH_GROUP]] = table[parts[HIGH_GROUP]], table[parts[LOW_GROUP]]
-    return in_tables("PUBLISHED_TABLE", tuple(table))
+    return in_shape(shape, "published", tuple(table))
 
 
 def wrong_signs():
     """Each printed coefficient with the other sign, in the published table."""
     return tuple(Wrong("the other sign at place %d of the published table" % place, "Readings at the limits", "read",
-                       published_with(place, -PUBLISHED_TABLE[place]))
-                 for place in range(FIRST_BLOCK, len(PUBLISHED_TABLE)) if PUBLISHED_TABLE[place])
+                       published_with(CUMULUS, place, -number))
+                 for place, number in enumerate(CUMULUS.published) if number and place >= CUMULUS.first_block)
 
 
 def rows_with_sign(block, group, q, p):
@@ -107,11 +108,15 @@ def wrong_signs_of_rows():
 
 # ---------------------------------------------------------------------- moves
 
-def cut_moved_the_other_way(limits, variable, shift):
-    moved = right_moved_limits(limits, variable, shift)
+def cut_moved_the_other_way(shape, limits, variable, shift):
+    moved = right_moved_limits(shape, limits, variable, shift)
     if variable == ALPHA:
-        moved[1] = limits[1] + shift
+        moved[ALPHA_CUT] = limits[ALPHA_CUT] + shift
     return moved
+
+
+def limits_moved_the_other_way(shape, limits, variable, shift):
+    return right_moved_limits(shape, limits, variable, -shift)
 
 
 def pure_places_dropped(p, q, moves_first, shift):
@@ -119,56 +124,57 @@ def pure_places_dropped(p, q, moves_first, shift):
     return [term for term in right_term_moved(p, q, moves_first, shift) if moves_first or q == 0 or term[1] > 0]
 
 
-def only_moved_table_weighed(table, variable, shift):
-    return max(right_weights(right_moved_table(table, variable, shift))) > tables.WEIGHT_CAP
+def only_moved_table_weighed(shape, table, variable, shift):
+    return max(right_weights(shape, right_moved_table(shape, table, variable, shift))) > tables.WEIGHT_CAP
 
 
-def limits_moved_once(limits, variable, shift):
+def limits_moved_once(shape, limits, variable, shift):
     """The envelope goes along with the first move only."""
-    return right_moved_limits(limits, variable, shift) if tuple(limits) == PUBLISHED_LIMITS else list(limits)
+    is_first = tuple(limits) == shape.published[:shape.first_block]
+    return right_moved_limits(shape, limits, variable, shift) if is_first else list(limits)
 
 
 def row_of_four_wrong(power, shift):
     return [(kept, factor * 4 // 6 if (power, kept) == (4, 2) else factor) for kept, factor in right_power_moved(power, shift)]
 
 
-def weighed_at_old_reach(table, variable, shift):
-    limits, stored = tables.limits_of(table), tables.magnitudes(table)
+def weighed_at_old_reach(shape, table, variable, shift):
+    limits, stored = tables.limits_of(shape, table), tables.magnitudes(table)
     found = []
-    for piece in tables.PIECES:
-        radii = right_reaches(limits, piece)
+    for piece in PIECES:
+        radii = right_reaches(shape, limits, piece)
         radii[variable] += abs(shift)
-        found += right_sums(stored, piece, radii)
+        found += right_sums(shape, stored, piece, radii)
     return found
 
 
-def refused_move_writes_limits(table, variable, shift, output):
-    number = right_move(table, variable, shift, output)
+def refused_move_writes_limits(shape, table, variable, shift, output):
+    number = right_move(shape, table, variable, shift, output)
     if number == tables.MOVE_TOO_HEAVY:
-        output[:FIRST_BLOCK] = right_moved_limits(table[:FIRST_BLOCK], variable, shift)
+        output[:shape.first_block] = right_moved_limits(shape, table[:shape.first_block], variable, shift)
     return number
 
 
 def not_moved(left_out, variables):
     """A group left as it is by the moves of some variables."""
-    return in_tables("moved_groups", lambda variable: [
-        group for group in right_moved_groups(variable) if group != left_out or variable not in variables])
+    return in_tables("moved_groups", lambda shape, variable: [
+        group for group in right_moved_groups(shape, variable) if group != left_out or variable not in variables])
 
 
-def variable_cut(table, variable, shift, output):
-    return right_move(table, variable & 0xFFFFFFFF, shift, output)
+def variable_cut(shape, table, variable, shift, output):
+    return right_move(shape, table, variable & 0xFFFFFFFF, shift, output)
 
 
-def shift_cut(table, variable, shift, output):
-    return right_move(table, variable, low_half(shift), output)
+def shift_cut(shape, table, variable, shift, output):
+    return right_move(shape, table, variable, low_half(shift), output)
 
 
 # -------------------------------------------------------------------- weights
 
-def high_reach_from_cut(limits, piece):
-    radii = right_reaches(limits, piece)
+def high_reach_from_cut(shape, limits, piece):
+    radii = right_reaches(shape, limits, piece)
     if piece == HIGH_GROUP:
-        radii[ALPHA] = tables.reach_between(limits[1], limits[2])
+        radii[ALPHA] = tables.reach_between(limits[ALPHA_CUT], limits[2])
     return radii
 
 
@@ -176,32 +182,31 @@ def smallest_is_its_own_magnitude(table):
     return [number if number == I64_MIN else abs(number) for number in table]
 
 
-def wrapped_weights(table):
-    return [signed(weight) for weight in right_weights(table)]
+def wrapped_weights(shape, table):
+    return [signed(weight) for weight in right_weights(shape, table)]
 
 
 def sides_forgotten_in(piece):
     """The weights of one piece without the side groups."""
-    def weights(table):
+    def weights(shape, table):
         bare = list(table)
-        for parts in tables.PARTS:
-            for group in SIDE_GROUPS:
-                bare[parts[group]] = [0] * len(GROUPS[group].powers)
-        return [weight for at, (whole, own) in enumerate(zip(right_weights(table), right_weights(tuple(bare))))
-                for weight in [own if at // BLOCK_COUNT == piece else whole]]
+        for parts in shape.parts:
+            for group in shape.side_groups:
+                bare[parts[group]] = [0] * len(shape.groups[group].powers)
+        pairs = zip(right_weights(shape, table), right_weights(shape, bare))
+        return [own if at // shape.block_count == piece else whole for at, (whole, own) in enumerate(pairs)]
     return weights
 
 
 def weighed_by(products):
     """The weights with other products of the reaches."""
-    def weight(numbers, group, five):
-        factors = products(group, five[GROUPS[group].first], five[GROUPS[group].second])
-        return sum(abs(number) * factor for number, factor in zip(numbers, factors))
+    def weight(numbers, group, radii):
+        return sum(abs(number) * factor for number, factor in zip(numbers, products(group, radii[group.first], radii[group.second])))
 
-    def weights(table):
-        radii = [tables.reaches(tables.limits_of(table), piece) for piece in PIECES]
-        return [sum(weight(table[parts[group]], group, radii[piece]) for group in (piece,) + SIDE_GROUPS)
-                for piece in PIECES for parts in tables.PARTS]
+    def weights(shape, table):
+        radii = [tables.reaches(shape, tables.limits_of(shape, table), piece) for piece in PIECES]
+        return [sum(weight(table[parts[number]], shape.groups[number], radii[piece]) for number in (piece,) + shape.side_groups)
+                for piece in PIECES for parts in shape.parts]
     return weights
 
 
@@ -211,7 +216,7 @@ def rows_and_columns_exchanged(group, first, second):
 
 def first_row_left_out(group, first, second):
     """Nothing for the numbers that stand beside no power of the second variable."""
-    return [product if q else 0 for product, (_, q) in zip(right_products(group, first, second), GROUPS[group].powers)]
+    return [product if q else 0 for product, (_, q) in zip(right_products(group, first, second), group.powers)]
 
 
 def last_row_left_out(group, first, second):
@@ -219,39 +224,40 @@ def last_row_left_out(group, first, second):
     return right_products(group, first, second)[:-1] + [0]
 
 
-def last_block_not_weighed(table):
-    return right_weights(table[:FIRST_BLOCK + BLOCK_LENGTH * (BLOCK_COUNT - 1)])
+def last_block_not_weighed(shape, table):
+    return right_weights(shape, table[:shape.table_length - shape.block_length])
 
 
-def blocks_weighed_together(table):
+def blocks_weighed_together(shape, table):
     """The largest magnitude of each place, over all blocks, taken for every block's."""
-    largest = [max(abs(number) for number in table[place::BLOCK_LENGTH]) for place in range(FIRST_BLOCK, FIRST_BLOCK + BLOCK_LENGTH)]
-    return right_weights(list(table[:FIRST_BLOCK]) + largest * BLOCK_COUNT)
+    largest = [max(abs(number) for number in table[place::shape.block_length]) for place in places_of_block(shape)]
+    return right_weights(shape, list(table[:shape.first_block]) + largest * shape.block_count)
 
 
 # --------------------------------------------------------------------- limits
 
-def lowest_below_cut(limits):
-    return right_limits_are_good(limits) and limits[0] < limits[1]
+def lowest_below_cut(shape, limits):
+    return right_limits_are_good(shape, limits) and limits[0] < limits[1]
 
 
-def cut_at_highest(limits):
-    return right_limits_are_good(limits) or limits[1] == limits[2] and right_limits_are_good(limits[:1] + [limits[0]] + limits[2:])
+def cut_at_highest(shape, limits):
+    return (right_limits_are_good(shape, limits)
+            or limits[1] == limits[2] and right_limits_are_good(shape, limits[:1] + [limits[0]] + limits[2:]))
 
 
-def others_not_single(limits):
-    return right_limits_are_good(limits) and all(limits[LOWEST[v]] < limits[HIGHEST[v]] for v in range(1, 5))
+def others_not_single(shape, limits):
+    return right_limits_are_good(shape, limits) and all(limits[lowest] < limits[highest] for lowest, highest in shape.limit_places[1:])
 
 
-def ends_excluded(table, variable, reading):
-    return not table[LOWEST[variable]] < reading < table[HIGHEST[variable]]
+def ends_excluded(shape, table, variable, reading):
+    return not table[shape.lowest[variable]] < reading < table[shape.highest[variable]]
 
 
 # -------------------------------------------------------------------- lengths
 
 def with_test(number, holds):
     """A table's tests with one of them made otherwise."""
-    return in_tables("table_tests", lambda table: {**right_table_tests(table), number: lambda: holds(table)})
+    return in_tables("table_tests", lambda shape, table: {**right_table_tests(shape, table), number: lambda: holds(table)})
 
 
 def longer_taken(operation, length):
@@ -265,13 +271,17 @@ def longer_taken(operation, length):
     return with_longer
 
 
-def shorter_taken(table, variable, shift, output):
+def shorter_taken(shape, table, variable, shift, output):
     """A move that writes as much as there is room for where that is less than a table."""
-    room = desk.lent(max(TABLE_LENGTH, len(output)))
-    number = right_move(table, variable, shift, room)
+    room = desk.lent(max(shape.table_length, len(output)))
+    number = right_move(shape, table, variable, shift, room)
     if number == tables.DONE:
         output[:] = room[:len(output)]
     return number
+
+
+def readings_cut(shape, table, readings, output):
+    return right_read(shape, table, [low_half(reading) for reading in readings], output)
 
 
 def low_half(number):
@@ -291,11 +301,11 @@ def piece_before_rounding(table, reading_bits):
     """Alpha is held against the cut as it was given."""
     readings = [door.whole_reading(bits) for bits in reading_bits]
     piece = tables.piece_at(table, door.exact_value(reading_bits[ALPHA]))
-    return [door.answer_bits(number) for number in right_sums(table, piece, readings)]
+    return [door.answer_bits(number) for number in right_sums(CUMULUS, table, piece, readings)]
 
 
 def outside_before_rounding(table, variable, bits):
-    return tables.is_outside(table, variable, door.exact_value(bits))
+    return tables.is_outside(CUMULUS, table, variable, door.exact_value(bits))
 
 
 def rounded_handed_back(number, reading_bits):
@@ -449,21 +459,20 @@ def changed_after_refusal(self, into, operation):
     return desk.refusal(number, room) if number else "0 wrote %d sum %d" % (len(room), desk.checksum(tuple(room)))
 
 
-READ_TESTS = (1, 2, 3, 4)
 MODELS = (
     # errors that look right
-    Wrong("the published cut at 314", "Readings at the limits", "read", published_with(1, 314)),
+    Wrong("the published cut at 314", "Readings at the limits", "read", published_with(CUMULUS, 1, 314)),
     Wrong("alpha below the cut asked for the low piece", "Readings at the limits", "read",
           in_tables("piece_at", lambda table, alpha: 0 if alpha < table[1] else 1)),
     Wrong("the cut left behind by a move", "The published table moved", "read",
-          in_tables("LIMIT_PLACES", ((0, 2),) + tables.LIMIT_PLACES[1:])),
+          in_shape(CUMULUS, "limit_places", ((0, 2),) + CUMULUS.limit_places[1:])),
     Wrong("the cut moved the other way", "The published table moved", "read", in_tables("moved_limits", cut_moved_the_other_way)),
     Wrong("what a move throws into the pure places dropped", "The published table moved", "read",
           in_tables("term_moved", pure_places_dropped)),
     Wrong("only the moved table weighed", "Borders of moved tables", "move", in_tables("move_is_too_heavy", only_moved_table_weighed)),
     Wrong("a reach of 0", "Edges of the reach", "read", in_tables("reach_between", lambda low, high: max(abs(low), abs(high)))),
     # the published table
-    Wrong("the low and the high group exchanged", "Readings at the limits", "read", low_and_high_exchanged()),
+    Wrong("the low and the high group exchanged", "Readings at the limits", "read", low_and_high_exchanged(CUMULUS)),
     # moves
     Wrong("the polynomials moved the other way", "The published table moved", "read",
           in_tables("power_moved", lambda power, shift: right_power_moved(power, -shift))),
@@ -473,7 +482,7 @@ MODELS = (
           not_moved(ZETA_GROUP, (BETA,))),
     Wrong("the high group not moved", "The published table moved", "read", not_moved(HIGH_GROUP, (ALPHA, ETA))),
     Wrong("the limits moved the other way", "The published table moved", "read",
-          in_tables("moved_limits", lambda limits, variable, shift: right_moved_limits(limits, variable, -shift))),
+          in_tables("moved_limits", limits_moved_the_other_way)),
     Wrong("a variable cut to 32 bits", "Moves of the published table", "move", in_tables("move", variable_cut)),
     Wrong("a shift cut to 32 bits", "Shifts at the ends of 64 bits", "move", in_tables("move", shift_cut)),
     Wrong("a refused move that writes limits", "Checked values 1 to 11", "move", in_tables("move", refused_move_writes_limits)),
@@ -507,8 +516,8 @@ MODELS = (
     Wrong("a single reading is no range", "Edges of the limits", "read", in_tables("limits_are_good", others_not_single)),
     Wrong("the ends of the limits excluded", "Readings at the limits", "read", in_tables("is_outside", ends_excluded)),
     Wrong("a reading cut to 32 bits", "Readings at the ends of 64 bits", "read",
-          in_tables("read", lambda table, readings, output: right_read(table, [low_half(reading) for reading in readings], output))),
-    Wrong("the rudder group not read", "Single numbers", "read", in_tables("SIDE_GROUPS", (XI_GROUP,))),
+          in_tables("read", readings_cut)),
+    Wrong("the rudder group not read", "Single numbers", "read", in_shape(CUMULUS, "side_groups", (XI_GROUP,))),
     Wrong("the two readings of a group exchanged", "Single numbers", "read",
           in_tables("products", lru_cache(rows_and_columns_exchanged))),
     Wrong("the first row of a group not read", "Single numbers", "read", in_tables("products", lru_cache(first_row_left_out))),
@@ -518,16 +527,16 @@ MODELS = (
     Wrong("a table without its last number taken", "Wrong lengths of reads", "read",
           with_test(tables.WRONG_TABLE_LENGTH, lambda table: len(table) not in (310, 311))),
     Wrong("a longer room taken by a read", "Wrong lengths of reads", "read",
-          in_tables("read", longer_taken(right_read, tables.READ_LENGTH))),
+          in_tables("read", longer_taken(right_read, READ_LENGTH))),
     Wrong("a longer room taken by publishing", "Publishing", "publish", in_tables("publish", longer_taken(right_publish, TABLE_LENGTH))),
     Wrong("a longer room taken by a move", "Wrong lengths of moves", "move", in_tables("move", longer_taken(right_move, TABLE_LENGTH))),
     Wrong("a shorter room taken by a move", "Wrong lengths of moves", "move", in_tables("move", shorter_taken)),
     # the order of refusals
     Wrong("a read's room before its table's length", "Mixed defects of reads", "read",
-          in_tables("READ_ORDER", (2, 1, 3, 4) + READING_OUTSIDE)),
-    Wrong("a read's weight before its limits", "Mixed defects of reads", "read", in_tables("READ_ORDER", (1, 2, 4, 3) + READING_OUTSIDE)),
+          in_tables("READ_ORDER", (2, 1, 3, 4))),
+    Wrong("a read's weight before its limits", "Mixed defects of reads", "read", in_tables("READ_ORDER", (1, 2, 4, 3))),
     Wrong("the last reading outside given", "Mixed defects of reads", "read",
-          in_tables("READ_ORDER", READ_TESTS + READING_OUTSIDE[::-1])),
+          in_tables("readings_order", lambda shape: shape.reading_outside[::-1])),
     Wrong("a move's variable behind its table", "Mixed defects of moves", "move", in_tables("MOVE_ORDER", (1, 2, 3, 4, 5, 6, 7))),
     Wrong("a move's weight before its limits", "Mixed defects of moves", "move", in_tables("MOVE_ORDER", (1, 2, 5, 3, 4, 7, 6))),
     Wrong("a move's room before its table's length", "Wrong rooms and defects of tables", "move",
@@ -537,7 +546,7 @@ MODELS = (
     Wrong("a move's room behind its table", "Wrong rooms and defects of tables", "move",
           in_tables("MOVE_ORDER", (1, 3, 4, 2, 5, 6, 7))),
     Wrong("a read's room behind its table", "Wrong rooms and defects of tables", "read",
-          in_tables("READ_ORDER", (1, 3, 4, 2) + READING_OUTSIDE)),
+          in_tables("READ_ORDER", (1, 3, 4, 2))),
     Wrong("outside asked before not finite", "Mixed defects of reads with floats", "floats",
           in_door("DOOR_ORDER", (1, 3, 4) + READING_OUTSIDE + door.NOT_FINITE)),
     Wrong("not finite asked reading by reading", "Mixed defects of reads with floats", "floats",
@@ -595,7 +604,7 @@ MODELS = (
     Wrong("the last of the microradians outside given", "Order of refusals of microradians", "microradians",
           in_fixed_point("ORDER", (tables.WRONG_OUTPUT_LENGTH,) + READING_OUTSIDE[::-1])),
     Wrong("a longer room taken for microradians", "Rooms of microradians", "microradians",
-          in_fixed_point("read", longer_taken(right_fine_read, tables.READ_LENGTH))),
+          in_fixed_point("read", longer_taken(right_fine_read, READ_LENGTH))),
     Wrong("a refused read of microradians that writes", "Order of refusals of microradians", "microradians",
           in_fixed_point("read", refused_fine_read_writes)),
 )
