@@ -2,6 +2,7 @@
 
 from desk import COMMANDS, LONGEST_LINE, MOST_NUMBERS, SPACE_COUNT, natural, pattern, whole
 from draws import I64_MAX, I64_MIN, MASK
+from gtm_model import GTM
 from makers import ZEROS
 from model import TABLE_LENGTH
 
@@ -156,6 +157,27 @@ def rooms_that_are_wrong(script, _):
         script.read(0, ZEROS, room)
         script.read(2, ZEROS, room)
         script.microradians(ZEROS, room)
+    gtm_rooms_that_are_wrong(script.of(GTM))
+
+
+def gtm_rooms_that_are_wrong(script):
+    """The same for GTM tables."""
+    script.comment("the same for GTM tables")
+    script.published(0)
+    script.zeros(2)
+    for length in (64, 65, 66):
+        script.zeros(1, length)
+        script.fill(1, 0, 1, 1000, 4)
+        script.move(0, 9, 5, 1)
+        script.sum(1)
+        script.move(1, 0, 5, 1)
+        script.sum(1)
+        if length != GTM.table_length:
+            script.publish(1)
+            script.sum(1)
+    for room in (0, 1, 2, 4, 6, 65, 319, 320, 321, 322, 1 << 32, (1 << 32) + 3, 1 << 63, MASK):
+        script.read(0, [0, 0], room)
+        script.read(2, [0, 0], room)
 
 
 # ------------------------------------------------------------------- lines
@@ -205,6 +227,10 @@ def reasons_in_their_order(script, _):
         b"floats 10 0 0 0 0 x", b"floats 10 7ff0000000000000 0 0 0 0",
         b"microradians 321 0 0 0 0 0", b"microradians 321 1000001 0 0 0 0", b"microradians 321 0 0 0 0 x", b"microradians 321 0 0 0 0",
         b"microradian 321 0 0 0 0 0",
+        b"gtm_publish 10 x", b"gtm_publish x", b"gtm_publsh 10",
+        b"gtm_move 10 x 0 0", b"gtm_move 10 9 0 10", b"gtm_move 0 x 0 10", b"gtm_move 10 0 0", b"gtm_move 10 0 0 0 0",
+        b"gtm_read 10 321 0 0", b"gtm_read 0 321 0 0", b"gtm_read 0 321 1001 0", b"gtm_read 10 321 0 x", b"gtm_read 10 321 0",
+        b"gtm_read 10 321 0 0 0 0 0", b"gtm_raed 10 321 0 0",
         b"length 10 321", b"length 10 x", b"length 0 321 0",
         b"set 10 400 1", b"set 10 400 x", b"set 0 400 x", b"set 0 400 1",
         b"fill 10 400 1 1 1", b"fill 0 400 1 1 x", b"fill 0 311 1 1 1",
@@ -267,6 +293,10 @@ def names_of_commands(script, _):
                        line + b"\r", line + b"\t", b"\t" + line, line.replace(b" ", b", "), line.replace(b" ", b"\x00", 1),
                        line.replace(b" ", b"", 1)):
             script.line(parted)
+    for line in (b"gtm", b"gtm 0", b"gtm_", b"gtm_ 0", b"gtm publish 0", b"gtm _publish 0", b"gtm_ publish 0", b"gtmpublish 0",
+                 b"gtm-publish 0", b"GTM_publish 0", b"_publish 0", b"publish_gtm 0", b"gtm_floats 0 0 0", b"gtm_microradians 3 0 0",
+                 b"gtm_sum 0", b"gtm_gtm_read 0 3 0 0"):
+        script.line(line)
     script.line(b"sum 00000000000000000000000000000000000000009")
     script.line(b"   sum    9")
     sum_all(script)

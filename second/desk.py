@@ -11,6 +11,7 @@ import door
 import fixed_point
 import tables
 from draws import I64_MAX, I64_MIN, MASK
+from gtm_model import GTM
 from model import CUMULUS, TABLE_LENGTH
 
 SPACE_COUNT = 10
@@ -121,12 +122,12 @@ class Desk:
         self.spaces[into] = tuple(room)
         return "0 wrote %d sum %d" % (len(room), checksum(self.spaces[into]))
 
-    def publish(self, into):
-        return self.write(into, lambda room: tables.publish(CUMULUS, room))
+    def published(self, shape, into):
+        return self.write(into, lambda room: tables.publish(shape, room))
 
-    def move(self, space, variable, shift, into):
+    def moved(self, shape, space, variable, shift, into):
         table = self.spaces[space]
-        return self.write(into, lambda room: tables.move(CUMULUS, table, variable, shift, room))
+        return self.write(into, lambda room: tables.move(shape, table, variable, shift, room))
 
     def values(self, length, operation):
         """Lend a room of the given length, and tell what was written with a 0."""
@@ -136,8 +137,17 @@ class Desk:
         number = operation(room)
         return refusal(number, room) if number != tables.DONE else spaced([number] + room)
 
+    def values_read(self, shape, space, length, readings):
+        return self.values(length, lambda room: tables.read(shape, self.spaces[space], readings, room))
+
+    def publish(self, into):
+        return self.published(CUMULUS, into)
+
+    def move(self, space, variable, shift, into):
+        return self.moved(CUMULUS, space, variable, shift, into)
+
     def read(self, space, length, *readings):
-        return self.values(length, lambda room: tables.read(CUMULUS, self.spaces[space], readings, room))
+        return self.values_read(CUMULUS, space, length, readings)
 
     def floats(self, space, *reading_bits):
         number, six, handed_back = door.read_floats(self.spaces[space], reading_bits)
@@ -145,6 +155,15 @@ class Desk:
 
     def microradians(self, length, *readings):
         return self.values(length, lambda room: fixed_point.read(readings, room))
+
+    def gtm_publish(self, into):
+        return self.published(GTM, into)
+
+    def gtm_move(self, space, variable, shift, into):
+        return self.moved(GTM, space, variable, shift, into)
+
+    def gtm_read(self, space, length, *readings):
+        return self.values_read(GTM, space, length, readings)
 
     # spaces
 
@@ -233,6 +252,9 @@ COMMANDS = {command.name.encode(): command for command in (
     Command("read", "SPACE ROOM ALPHA BETA XI ETA ZETA"),
     Command("floats", "SPACE ALPHA BETA XI ETA ZETA", pattern),
     Command("microradians", "ROOM ALPHA BETA XI ETA ZETA"),
+    Command("gtm_publish", "INTO"),
+    Command("gtm_move", "SPACE VARIABLE SHIFT INTO"),
+    Command("gtm_read", "SPACE ROOM ALPHA ETA"),
     Command("length", "SPACE COUNT"),
     Command("set", "SPACE PLACE NUMBER"),
     Command("fill", "SPACE PLACE STEP SIZE SEED"),

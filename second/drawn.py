@@ -1,6 +1,6 @@
 """Sections of drawn reads and moves: published, moved, random, unsound and damaged tables, and tables whose weight is just the cap.
 
-Each is drawn for the shape of the script that it is given.
+Each is drawn for the shape of the script that it is given, in so many turns.
 """
 
 from draws import I64_MAX, I64_MIN
@@ -37,16 +37,16 @@ def float_read(script, gen, space):
         script.floats(space, inside_float_state(gen, script.table(space)))
 
 
-def published_reads(script, gen):
+def published_reads(script, gen, turns=600):
     script.published(0)
-    for _ in range(600):
+    for _ in range(turns):
         use_table(script, gen, 0)
 
 
-def published_and_moved(script, gen):
+def published_and_moved(script, gen, turns=80):
     script.published(0)
     script.zeros(1)
-    for _ in range(80):
+    for _ in range(turns):
         v = any_variable(gen, script.shape)
         bound = PROMISED_SIZES[script.shape][v] * gen.take(1, 3)
         move_and_use(script, gen, 0, v, gen.take(-bound, bound), 1)
@@ -60,11 +60,11 @@ def two_moves(script, v, shift, w, other):
         script.move(1, w, other, 2)
 
 
-def composed_moves(script, gen):
+def composed_moves(script, gen, turns=12):
     """Moves on top of moves, there and back, in two steps and in one, in either order."""
     script.zeros(1)
     script.zeros(2)
-    for _ in range(12):
+    for _ in range(turns):
         script.published(0)
         for _ in range(5):
             if move_and_use(script, gen, 0, any_variable(gen, script.shape), gen.take(-120, 120), 1):
@@ -89,9 +89,9 @@ def published_or_random(script, gen, turn):
         random_table(script, gen, 0)
 
 
-def chains_with_refusals(script, gen):
+def chains_with_refusals(script, gen, turns=40):
     """Moves of a space into itself, of which some are refused and leave the space as it was."""
-    for turn in range(40):
+    for turn in range(turns):
         published_or_random(script, gen, turn)
         for _ in range(10):
             script.move(0, gen.take(0, script.shape.variable_count), any_shift(gen), 0)
@@ -99,21 +99,21 @@ def chains_with_refusals(script, gen):
         script.show(0, 0, script.shape.first_block + 1)
 
 
-def bad_limits(script, gen):
+def bad_limits(script, gen, turns=75):
     script.published(0)
     script.zeros(2)
-    for _ in range(75):
+    for _ in range(turns):
         script.copy(0, 1)
         spoil_limits(script, gen, 1)
         use_table(script, gen, 1)
         script.move(1, gen.take(0, script.shape.variable_count + 1), gen.take(-10, 10), 2)
 
 
-def damaged_tables(script, gen):
+def damaged_tables(script, gen, turns=150):
     """One number of the published table, or of a moved one, changed."""
     script.published(0)
     script.zeros(2)
-    for turn in range(150):
+    for turn in range(turns):
         script.copy(0, 1)
         if turn % 2 == 1:
             nudge(script, gen, 0, 1)
@@ -138,10 +138,10 @@ def use_and_move_to_border(script, gen):
     border(script, gen, 0, v, 1)
 
 
-def random_tables(script, gen):
+def random_tables(script, gen, turns=120):
     """Sound or too heavy, with numbers at some places."""
     script.zeros(1)
-    for _ in range(120):
+    for _ in range(turns):
         random_table(script, gen, 0)
         use_and_move_to_border(script, gen)
 
@@ -156,11 +156,11 @@ def dense_random_tables(script, gen):
             float_read(script, gen, 0)
 
 
-def borders_of_moved_tables(script, gen):
+def borders_of_moved_tables(script, gen, turns=16):
     """Moved to the border in one variable, and from there in every one."""
     script.zeros(1)
     script.zeros(2)
-    for turn in range(16):
+    for turn in range(turns):
         published_or_random(script, gen, turn)
         v = any_variable(gen, script.shape)
         sign = of_sign(gen, 1)
@@ -211,14 +211,14 @@ def moves_at_the_cap(script, gen):
             script.move(1, variable, shift, 2)
 
 
-def each_block(script, gen):
+def each_block(script, gen, turns=90):
     """A number in each block, sound, and then one block too heavy by itself.
 
     Taken together by place, the blocks' magnitudes are mostly too heavy.
     """
     shape = script.shape
     script.zeros(2)
-    for k in range(90):
+    for k in range(turns):
         limits = good_limits(gen, shape)
         one_in_each_block(script, gen, 1, limits, k % 3)
         use_table(script, gen, 1)

@@ -1,13 +1,17 @@
-"""Sections in which nothing is drawn: the checked values, every limit, wrong lengths, every mixture of defects, single numbers."""
+"""Sections in which nothing is drawn: the checked values, every limit, wrong lengths, every mixture of defects, single numbers.
+
+Those of mixed defects and of edges are for the shape of the script that they are given.
+"""
 
 from itertools import product
 
 from draws import I64_MAX, I64_MIN, MASK
 from makers import (
     INFINITY, NARROW_LIMITS, PROMISED_SIZES, QUIET_NAN, X_CONSTANT, X_LOW_AAA, ZEROS, bits_of_ratio, bits_of_whole, corners, last_accepted,
-    with_reading,
+    places_of_block, with_reading,
 )
 from model import BLOCK_LENGTH, CUMULUS, FIRST_BLOCK, HIGHEST, LOWEST, PUBLISHED_TABLE, TABLE_LENGTH
+from shapes import HIGH_GROUP, LOW_GROUP
 from tables import WEIGHT_CAP
 
 ODD_VARIABLES = (5, 6, 1 << 32, (1 << 32) + 1, 1 << 63, MASK)
@@ -195,50 +199,53 @@ def wrong_lengths_of_moves(script, _):
 
 def lay_out_defects(script, heavy_to_move):
     """Spaces 0 to 7 for every mixture of a wrong length (1), limits that are not good (2) and a number that is too heavy (4)."""
+    shape = script.shape
     for mask in range(8):
-        script.limits(mask, NARROW_LIMITS)
+        script.limits(mask, NARROW_LIMITS[:shape.first_block])
         if heavy_to_move:
-            script.set(mask, X_LOW_AAA, 9000000000000)
+            script.set(mask, shape.place_of(0, LOW_GROUP, (3, 0)), 9000000000000)
         if mask & 2:
-            script.set(mask, 3, 1)          # beta lowest above its highest 0
+            script.set(mask, 3, 1)          # the second variable's lowest above its highest 0
         if mask & 4:
-            script.set(mask, 260, I64_MIN)
+            script.set(mask, shape.table_length - shape.block_length - 1, I64_MIN)
         if mask & 1:
-            script.length(mask, 310)
+            script.length(mask, shape.table_length - 1)
 
 
 def mixed_defects_of_reads(script, _):
     lay_out_defects(script, False)
+    variables = range(script.shape.variable_count)
     for mask in range(8):
-        for outside in range(32):
-            state = [2 if outside >> v & 1 else 0 for v in range(5)]
+        for outside in range(1 << len(variables)):
+            state = [2 if outside >> v & 1 else 0 for v in variables]
             script.read(mask, state)
-            script.read(mask, state, 5)
+            script.read(mask, state, script.shape.read_length - 1)
 
 
 def mixed_defects_of_moves(script, _):
-    script.length(9, 310)
+    script.length(9, script.shape.table_length - 1)
     for heavy_to_move in (False, True):
         lay_out_defects(script, heavy_to_move)
         script.zeros(8)
         for mask in range(8):
-            for variable in (0, 5):
+            for variable in (0, script.shape.variable_count):
                 for shift in (100, 3000):
                     script.move(mask, variable, shift, 8)
                     script.move(mask, variable, shift, 9)
 
 
-def wrong_rooms_and_defects(script, _):
+def wrong_rooms_and_defects(script, _, rooms=NO_TABLE_ROOMS):
     """Wrong rooms for publishing, moves and reads, with every mixture of a table's defects: which refusal comes first."""
     lay_out_defects(script, True)
-    for room in NO_TABLE_ROOMS:
+    none, inside = script.shape.variable_count, [0] * script.shape.variable_count
+    for room in rooms:
         room_of_numbers(script, 9, room)
         script.publish(9)
         for mask in range(8):
-            for variable, shift in ((0, 0), (0, 100), (0, 3000), (5, 0), (5, 3000)):
+            for variable, shift in ((0, 0), (0, 100), (0, 3000), (none, 0), (none, 3000)):
                 script.move(mask, variable, shift, 9)
-            script.read(mask, ZEROS, room)
-            script.read(mask, [2, 0, 0, 0, 2], room)
+            script.read(mask, inside, room)
+            script.read(mask, [2] + inside[1:-1] + [2], room)
         script.sum(9)
 
 
@@ -307,38 +314,41 @@ def single_numbers(script, _):
 
 def edges_of_the_limits(script, _):
     """Limits just good and just not."""
-    script.limits(0, [-5, 0, 5, -5, 5, -5, 5, -5, 5, -5, 5])
+    shape = script.shape
+    state = [0] * shape.variable_count
+    script.limits(0, [-5, 0, 5] + [-5, 5] * (shape.variable_count - 1))
     script.zeros(2)
-    for place in range(11):
+    for place in range(shape.first_block):
         for limit in (-2001, -2000, 2000, 2001, 1999, -1999):
             changed_copy(script, (place, limit))
-            script.read(1, ZEROS)
-            script.move(1, place % 5, 0, 2)
+            script.read(1, state)
+            script.move(1, place % shape.variable_count, 0, 2)
     script.comment("lowest, cut and highest beside each other")
     for limits in product((-1, 0, 1), repeat=3):
         changed_copy(script, *enumerate(limits))
-        script.read(1, ZEROS)
-    for v in range(1, 5):
+        script.read(1, state)
+    for lowest_place, highest_place in shape.limit_places[1:]:
         for lowest, highest in ((0, 0), (1, 0), (0, -1), (-2000, 2000), (2000, 2000), (2000, -2000)):
-            changed_copy(script, (LOWEST[v], lowest), (HIGHEST[v], highest))
-            script.read(1, ZEROS)
+            changed_copy(script, (lowest_place, lowest), (highest_place, highest))
+            script.read(1, state)
 
 
 def edges_of_the_reach(script, _):
     """The weights that go with a reach of 1 and with each piece's reach."""
+    shape = script.shape
     script.comment("all limits 0 but alpha's highest: each reach is 1, and a number weighs its magnitude in any place")
-    script.limits(0, [0, 0, 1] + [0] * 8)
-    for place in range(FIRST_BLOCK, FIRST_BLOCK + BLOCK_LENGTH):
+    script.limits(0, [0, 0, 1])
+    for place in places_of_block(shape):
         for number in (WEIGHT_CAP, -WEIGHT_CAP - 1):
             changed_copy(script, (place, number))
-            script.read(1, ZEROS)
+            script.read(1, with_reading(0, 0, shape))
     script.comment("the high piece reaches from cut + 1")
-    script.limits(0, [-4, -3, -2] + [0] * 8)
-    for place, reach in ((FIRST_BLOCK + 1, 4), (FIRST_BLOCK + 11, 2), (FIRST_BLOCK + 6, 64), (FIRST_BLOCK + 16, 8)):
+    script.limits(0, [-4, -3, -2])
+    for piece, power, reach in ((LOW_GROUP, 1, 4), (HIGH_GROUP, 1, 2), (LOW_GROUP, 3, 64), (HIGH_GROUP, 3, 8)):
         for more in (0, 1):
-            changed_copy(script, (place, WEIGHT_CAP // reach + more))
-            script.read(1, with_reading(0, -3))
-            script.read(1, with_reading(0, -2))
+            changed_copy(script, (shape.place_of(0, piece, (power, 0)), WEIGHT_CAP // reach + more))
+            script.read(1, with_reading(0, -3, shape))
+            script.read(1, with_reading(0, -2, shape))
 
 
 SECTIONS = (

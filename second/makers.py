@@ -8,6 +8,7 @@ from fractions import Fraction
 import door
 import tables
 from draws import I64_MAX, I64_MIN, signed
+from gtm_model import GTM
 from model import CUMULUS, FIRST_BLOCK, HIGHEST, LOWEST
 from shapes import ALPHA, ALPHA_CUT, HIGH_GROUP, LOW_GROUP
 from tables import WEIGHT_CAP
@@ -16,14 +17,14 @@ ZEROS = [0, 0, 0, 0, 0]
 NARROW_LIMITS = (-100, 0, 1, 0, 0, 0, 0, 0, 0, 0, 0)
 X_CONSTANT = FIRST_BLOCK
 X_LOW_AAA = CUMULUS.place_of(0, LOW_GROUP, (3, 0))      # place 17
-# sizes up to which each single move of the published table is accepted
-PROMISED_SIZES = {CUMULUS: (300, 200, 100, 200, 200)}
+# sizes up to which each single move of a published table is accepted, by variable number
+PROMISED_SIZES = {CUMULUS: (300, 200, 100, 200, 200), GTM: (500, 1500)}
 
 
 # ---------------------------------------------------------------------- states
 
-def with_reading(variable, value):
-    readings = list(ZEROS)
+def with_reading(variable, value, shape=CUMULUS):
+    readings = [0] * shape.variable_count
     readings[variable] = value
     return readings
 
@@ -170,10 +171,17 @@ def move_factor_at(shape, limits, place, variable, shift):
     return product_at(shape, radii, place)
 
 
-# What a term may weigh. The first make tables near the cap, on either side of it; the last make light tables that can be moved far.
+# What one of 40 terms may weigh. The first make tables near the cap, on either side of it; the last make light tables that can be moved
+# far.
 BUDGETS = (2 * 10**18, 10**18, 5 * 10**17, 10**15, 10**12, 10**9)
 # Of how many blocks' length the steps are.
 STEPS = (1, 1, 1, 1, 2, 3, 0)
+
+
+def for_each_term(shape, budget):
+    """What a term of a shape may weigh, where another number of them than 40 is weighed together."""
+    together = sum(len(shape.groups[number].powers) for number in (LOW_GROUP,) + shape.side_groups)
+    return budget * 40 // together
 
 
 def places_of_block(shape):
@@ -191,7 +199,7 @@ def random_table(script, gen, space):
     shape = script.shape
     limits = good_limits(gen, shape)
     script.limits(space, limits)
-    budget = gen.pick(BUDGETS)
+    budget = for_each_term(shape, gen.pick(BUDGETS))
     if gen.take(0, 1) == 1:                 # no place is left 0
         heaviest = max(factor_at(shape, limits, place) for place in places_of_block(shape))
         script.fill(space, shape.first_block, 1, budget // heaviest + 2, draw_seed(gen))
@@ -201,7 +209,7 @@ def random_table(script, gen, space):
         script.fill(space, place, step, budget // factor_at(shape, limits, place) + 1, draw_seed(gen))
 
 
-# What a term may weigh where most places hold one, likewise.
+# The same where most places hold a number.
 DENSE_BUDGETS = (5 * 10**17, 4 * 10**17, 2 * 10**17, 10**15, 10**12, 10**9)
 
 
@@ -210,9 +218,10 @@ def dense_table(script, gen, space, budget, quarters):
     shape = script.shape
     limits = good_limits(gen, shape)
     script.limits(space, limits)
+    most = for_each_term(shape, budget)
     for place in places_of_block(shape):
         if gen.take(1, 4) <= quarters:
-            script.fill(space, place, shape.block_length, budget // factor_at(shape, limits, place) + 1, draw_seed(gen))
+            script.fill(space, place, shape.block_length, most // factor_at(shape, limits, place) + 1, draw_seed(gen))
 
 
 # --------------------------------------------------------------------- borders
@@ -248,12 +257,14 @@ def rest_of_cap(shape, limits, place):
 
 
 def filling_place(shape, place):
-    """The constant of a side group of the same block, never the place itself.
+    """A place of the same block for what the largest number of a place leaves of the cap, never the place itself.
 
-    Its number weighs its own magnitude, in both pieces.
+    It is the constant of a side group or, where there is none, of the place's own group: its number weighs its own magnitude,
+    wherever the place is weighed. Beside this constant nothing is left, and it is the next place.
     """
-    constants = [shape.place_of(block_of(shape, place), number, (0, 0)) for number in shape.side_groups]
-    return constants[1] if place == constants[0] else constants[0]
+    own = group_and_offset(shape, place)[0]
+    constants = [shape.place_of(block_of(shape, place), number, (0, 0)) for number in shape.side_groups or (own,)]
+    return [filling for filling in constants + [place + 1] if filling != place][0]
 
 
 def size_near(gen, full, way):

@@ -8,12 +8,13 @@ shape, and of another in the same script told by of().
 from copy import copy
 
 from desk import Desk
+from gtm_model import GTM
 from model import CUMULUS, READ_LENGTH
 
 TITLE = b"## "
-OPERATIONS = ("publish", "move", "read", "floats", "microradians")
+OPERATIONS = ("publish", "move", "read", "floats", "microradians", "gtm_publish", "gtm_move", "gtm_read")
 # what the names of a shape's operations begin with
-PREFIXES = {CUMULUS: ""}
+PREFIXES = {CUMULUS: "", GTM: "gtm_"}
 
 
 class Script:

@@ -5,12 +5,13 @@ from zlib import crc32
 import commands
 import drawn
 import floats
+import gtm
 import listed
 import microradians
 from draws import Generator
 from script import TITLE, Script
 
-SECTIONS = listed.SECTIONS + drawn.SECTIONS + floats.SECTIONS + microradians.SECTIONS + commands.SECTIONS
+SECTIONS = listed.SECTIONS + drawn.SECTIONS + floats.SECTIONS + microradians.SECTIONS + gtm.SECTIONS + commands.SECTIONS
 
 
 def seeded_by(title):

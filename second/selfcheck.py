@@ -9,24 +9,29 @@ from fractions import Fraction
 import desk
 import door
 import fixed_point
+import gtm
+import gtm_model
 import microradians
 import tables
 import trimcard
 from desk import lent
 from draws import Generator
+from gtm_model import GTM
 from makers import (
-    NARROW_LIMITS, SPECIAL_BITS, any_variable, filling_place, full_number, good_limits, inside_float_state, inside_state, move_factor_at,
-    one_in_each_block, random_table, rest_of_cap, shifted, with_reading,
+    NARROW_LIMITS, PROMISED_SIZES, SPECIAL_BITS, any_variable, filling_place, full_number, good_limits, inside_float_state,
+    inside_state, last_accepted, move_factor_at, one_in_each_block, random_table, rest_of_cap, shifted, with_reading,
 )
 from model import BLOCK_COUNT, CUMULUS, EQUATIONS_OF_BLOCK, FIRST_BLOCK, GROUPS, PRINTED, PUBLISHED_TABLE
 from script import Script
 from shapes import parse_polynomial
 from wrong import replaced
 
-SHAPES = (CUMULUS,)
+SHAPES = (CUMULUS, GTM)
 X, Z, L, M = 0, 2, 3, 4
 T = PUBLISHED_TABLE
 TERMS = {equation: parse_polynomial(text, CUMULUS.letters) for equation, text in PRINTED.items()}
+GTM_TERMS = {equation: parse_polynomial(text, GTM.letters) for equation, text in gtm_model.PRINTED.items()}
+LIFT, DRAG, PITCH = range(3)
 
 
 def zero_table(limits, shape=CUMULUS):
@@ -102,11 +107,11 @@ def check_printed_text():
     assert [len(group.powers) for group in GROUPS] == [10, 10, 15, 15]
 
 
-def printed_value(equations, radians):
+def printed_value(equations, radians, terms=TERMS):
     """The sum of printed equations at readings in radians."""
     total = Fraction(0)
     for equation in equations:
-        for powers, value in TERMS[equation].items():
+        for powers, value in terms[equation].items():
             for reading, power in zip(radians, powers):
                 value *= reading ** power
             total += value
@@ -427,6 +432,90 @@ def check_halves_in_microradians():
         assert min(halves) < 0 < max(halves)
 
 
+# ------------------------------------------------------------------------- GTM
+
+def gtm_values(is_low, radians, terms=GTM_TERMS):
+    """Lift, drag and pitching moment by the printed equations."""
+    return [printed_value(low if is_low else high, radians, terms) for low, high in gtm_model.EQUATIONS_OF_BLOCK]
+
+
+def check_printed_text_of_the_gtm():
+    assert [len(GTM_TERMS[equation]) for equation in ("96 low", "96 high", "97")] == [4, 4, 10]
+    printed = [value for terms in GTM_TERMS.values() for value in terms.values()]
+    assert len(printed) == 54 and printed.count(0) == 1
+    assert all((1000 * value).denominator == 1 for value in printed)
+    assert GTM.published[:5] == (-150, 290, 1000, -400, 400) and len(GTM.published) == 65
+    place = 5
+    for block in range(3):
+        for number, group in enumerate(GTM.groups):
+            for powers in group.powers:
+                assert place == GTM.place_of(block, number, powers)
+                assert GTM.published[place] % (100 * 1000 ** (4 - sum(powers))) == 0
+                place += 1
+    # the eta expression goes into both pieces: -30.060 + 0.051 and 0.708 + 0.051
+    assert GTM.published[GTM.place_of(LIFT, 0, (3, 0))] == -3000900000 and GTM.published[GTM.place_of(LIFT, 1, (3, 0))] == 75900000
+    for power in ((0, 1), (1, 1), (0, 2), (2, 1), (1, 2), (0, 3)):
+        for block in range(3):
+            assert GTM.published[GTM.place_of(block, 0, power)] == GTM.published[GTM.place_of(block, 1, power)] != 0
+
+
+def gap(block, radians, terms=GTM_TERMS):
+    """By how much the low piece is above the high one."""
+    return gtm_values(True, radians, terms)[block] - gtm_values(False, radians, terms)[block]
+
+
+def check_boundary_of_the_gtm():
+    """16.634 degrees lies between 290 and 291 milliradians, and there the two pieces all but meet."""
+    turn = Fraction("16.634") / 180
+    assert 290 < turn * 1000 * Fraction("3.14159") < turn * 1000 * Fraction("3.1416") < 291
+    boundary = [turn * Fraction("3.14159265"), 0]
+    for block, due, unit in ((LIFT, 8, 10**4), (DRAG, -7, 10**5), (PITCH, 3, 10**4)):
+        assert door.round_half_even(gap(block, boundary) * unit) == due
+    # with the numbers of the damaged line they would not
+    for powers, wrong, due in (((0, 0), "-0.029", 58), ((2, 0), "2.304", 5)):
+        damaged = {**GTM_TERMS, "98 low": {**GTM_TERMS["98 low"], powers: Fraction(wrong)}}
+        assert door.round_half_even(abs(gap(DRAG, boundary, damaged)) * 1000) == due
+
+
+def check_published_reads_of_the_gtm():
+    """Reads of the published table against the printed equations themselves, term by term in radians."""
+    gen = Generator(109)
+    for _ in range(60):
+        state = inside_state(gen, GTM, GTM.published)
+        exact = gtm_values(state[0] <= 290, [Fraction(reading, 1000) for reading in state])
+        assert read(GTM.published, state, GTM) == (0, [answer * 10**17 for answer in exact])
+
+
+def check_worked_values_of_the_gtm():
+    for state, answer in gtm.EXAMPLES:
+        assert desk.run(b"length 0 65\ngtm_publish 0\ngtm_read 0 3 %d %d" % state).split(b"\n")[2] == answer.encode()
+    assert tables.weights(GTM, GTM.published) == [
+        274496196100000000, 49150607500000000, 313041308700000000, 808117600000000000, 307263200000000000, 680266400000000000]
+    number, moved = move(GTM.published, 0, 35, GTM)
+    assert number == 0 and moved[:5] == (-185, 255, 965, -400, 400)
+    assert moved[5:15] == (20135178912500000, 526062692500000, 50648777500000, -123794500000, -41327000000, 7874500000, -3000900000,
+                           3900000, -29300000, -47900000)
+    for variable, shift, number in ((0, -1000, 7), (0, -1001, 6), (2, 0, 5)):
+        assert move(GTM.published, variable, shift, GTM)[0] == number
+
+
+def check_sizes_of_the_gtm():
+    """The largest single moves of the published table, and every size that is always accepted."""
+    for variable, sign, size in ((0, 1, 577), (0, -1, 507), (1, 1, 1533), (1, -1, 1533)):
+        assert last_accepted(GTM, GTM.published, variable, sign) == size
+        assert move(GTM.published, variable, sign * (size + 1), GTM)[0] == 7
+        for shift in range(PROMISED_SIZES[GTM][variable] + 1):
+            assert tables.move_number(GTM, GTM.published, variable, sign * shift, 65) == 0
+
+
+def check_other_shape():
+    """A table of the other shape is refused by its length, and so is a room."""
+    assert read(T, [0, 0], GTM)[0] == read(GTM.published, [0] * 5)[0] == 1
+    assert move(T, 0, 0, GTM)[0] == move(GTM.published, 0, 0)[0] == 1
+    assert tables.publish(GTM, lent(311)) == tables.publish(CUMULUS, lent(65)) == 2
+    assert tables.read(GTM, GTM.published, [0, 0], lent(6)) == tables.read(CUMULUS, T, [0] * 5, lent(3)) == 2
+
+
 def check_line_program():
     origin = (b"0 -2566000000000000 5402000000000000 -34750000000000000"
               b" 4875000000000000 6214000000000000 4748000000000000\n")
@@ -484,6 +573,9 @@ def check_desk():
         (b"show 0 311 0\nshow 0 311 1\nshow 0 0 3", b"\n? no such place\n0 0 0\n"),
         (b"length 0 2\nset 0 1 7\ncopy 0 3\nlength 3 4\nshow 3 0 4", b"ok\nok\nok\nok\n0 7 0 0\n"),
         (b"floats 0 g 0 0 0 0", b"? use: floats SPACE ALPHA BETA XI ETA ZETA\n"),
+        (b"gtm_publish", b"? use: gtm_publish INTO\n"), (b"gtm_move 0 0 0", b"? use: gtm_move SPACE VARIABLE SHIFT INTO\n"),
+        (b"gtm_read 0 3 0", b"? use: gtm_read SPACE ROOM ALPHA ETA\n"), (b"gtm_read 0 321 0 0", b"? there is room for 320 numbers\n"),
+        (b"gtm_publish 0\ngtm_read 0 3 0 0\ngtm_move 0 0 0 0", b"2 untouched\n1 untouched\n1 untouched\n"),
         (b"sum 0" + b" " * 251, desk.run(b"sum 0")), (b"sum 0" + b" " * 252, b"? a line has at most 256 bytes\n"),
         (b"publish 0\nread 0 5 0 0 0 0 0\nmove 0 5 0 0", desk.run(b"publish 7") + b"2 untouched\n5 untouched\n"),
     ):
@@ -495,7 +587,8 @@ CHECKS = (
     check_values_12_and_13, check_exact_values, check_rounding, check_drawn_rounding, check_promised_moves, check_moves,
     check_refusal_order, check_tables_at_cap, check_moves_at_cap, check_float_reads, check_examples_in_microradians,
     check_errors_in_microradians, check_whole_milliradians, check_nearest_in_microradians, check_halves_in_microradians,
-    check_line_program, check_draws, check_desk,
+    check_printed_text_of_the_gtm, check_boundary_of_the_gtm, check_published_reads_of_the_gtm, check_worked_values_of_the_gtm,
+    check_sizes_of_the_gtm, check_other_shape, check_line_program, check_draws, check_desk,
 )
 
 if __name__ == "__main__":
