@@ -179,7 +179,7 @@ STEPS = (1, 1, 1, 1, 2, 3, 0)
 
 
 def for_each_term(shape, budget):
-    """What a term of a shape may weigh, where another number of them than 40 is weighed together."""
+    """What one term of a shape may weigh: more where fewer than 40 are weighed together."""
     together = sum(len(shape.groups[number].powers) for number in (LOW_GROUP,) + shape.side_groups)
     return budget * 40 // together
 
