@@ -1,2 +1,0 @@
--- What the functions for C have in common.
-pub mod States
