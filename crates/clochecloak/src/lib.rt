@@ -1,11 +1,12 @@
 // The operations for hosts in C, which hold tables as numbers. A slice is a pointer and a count of numbers.
 ghost use mathlib.Core.Path.{_≡_};
 ghost use mathlib.Core.List.{[], _∷_};
-ghost use Rattle.layout.specs.Shape.{cumulus};
+ghost use Rattle.layout.specs.Shape.{cumulus, gtm};
 ghost use Rattle.layout.specs.Reading.{readings, readNumber, readOutput};
 ghost use Rattle.layout.specs.Moving.{moveNumber, moveOutput};
 ghost use Rattle.layout.specs.Publishing.{publishNumber, publishOutput};
 ghost use Rattle.cumulus.specs.Published.{published};
+ghost use Rattle.gtm.specs.Published.{published as gtmPublished};
 ghost use Rattle.microradians.specs.Answer.{fineNumber, fineOutput};
 ghost use Rattle.door.specs.Door.{floats, doorAnswer};
 use door::Answer;
@@ -76,4 +77,34 @@ pub extern "C" fn clochecloak_read_floats(
 {
     let readings = [alpha, beta, xi, eta, zeta];
     door::read_floats(table, readings)
+}
+
+// The GTM's longitudinal model: another table, with alpha and eta for its variables.
+#[no_mangle]
+pub extern "C" fn clochecloak_gtm_publish(out: &mut [i64]) -> u64
+    ensures number { λ r. ⌜ r ≡ publishNumber gtmPublished (now (out .entry)) ⌝ }
+    ensures output { λ r. ⌜ now (out .exit) ≡ publishOutput gtmPublished (now (out .entry)) ⌝ }
+{
+    gtm::publish(out)
+}
+
+#[no_mangle]
+pub extern "C" fn clochecloak_gtm_read(table: &[i64], alpha: i64, eta: i64, out: &mut [i64]) -> u64
+    ensures number { λ r. ⌜ r ≡ readNumber gtm (now (table .entry)) (readings (alpha ∷ eta ∷ [])) (now (out .entry)) ⌝ }
+    ensures output { λ r. ⌜ now (out .exit) ≡ readOutput gtm (now (table .entry)) (readings (alpha ∷ eta ∷ [])) (now (out .entry)) ⌝ }
+{
+    gtm::read(table, [alpha, eta], out)
+}
+
+#[no_mangle]
+pub extern "C" fn clochecloak_gtm_move(
+    table: &[i64],
+    variable: usize,
+    shift: i64,
+    out: &mut [i64],
+) -> u64
+    ensures number { λ r. ⌜ r ≡ moveNumber gtm (now (table .entry)) variable shift (now (out .entry)) ⌝ }
+    ensures output { λ r. ⌜ now (out .exit) ≡ moveOutput gtm (now (table .entry)) variable shift (now (out .entry)) ⌝ }
+{
+    gtm::move_datum(table, variable, shift, out)
 }
