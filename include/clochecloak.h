@@ -1,8 +1,12 @@
 /* Clochecloak for C. Link libclochecloak.a, which `rt staticlib clochecloak` writes.
  *
- * A table is CLOCHECLOAK_TABLE numbers. Readings and shifts are whole milliradians; variables are 0 alpha, 1 beta, 2 xi
- * (aileron), 3 eta (elevator) and 4 zeta (rudder); coefficients are whole units of 10^-17, in the order X, Y, Z, l, m, n. One
- * read has units of its own: whole microradians, and coefficients in units of 10^-9.
+ * There are two models, each with tables of its own. A table of the Cumulus One is CLOCHECLOAK_TABLE numbers; its variables
+ * are 0 alpha, 1 beta, 2 xi (aileron), 3 eta (elevator) and 4 zeta (rudder), its coefficients X, Y, Z, l, m, n, in this order.
+ * A table of the GTM's longitudinal model is CLOCHECLOAK_GTM_TABLE numbers; its variables are 0 alpha and 1 eta (elevator), its
+ * coefficients lift, drag and pitching moment, in this order. A table of the other model is refused by its length.
+ *
+ * Readings and shifts are whole milliradians, coefficients whole units of 10^-17. One read has units of its own: whole
+ * microradians, and coefficients in units of 10^-9.
  *
  * Every function takes any arguments and gives back 0, or the number of a refusal. After a refusal the output holds what it
  * held before. The counts are counts of numbers, not of bytes. A table and an output may not overlap. No function allocates, or calls
@@ -20,18 +24,19 @@ extern "C" {
 #endif
 
 enum { CLOCHECLOAK_TABLE = 311, CLOCHECLOAK_COEFFICIENTS = 6 };
+enum { CLOCHECLOAK_GTM_TABLE = 65, CLOCHECLOAK_GTM_COEFFICIENTS = 3 };
 
 enum {
     CLOCHECLOAK_DONE = 0,
-    CLOCHECLOAK_WRONG_TABLE = 1,    /* the table does not have 311 numbers */
-    CLOCHECLOAK_WRONG_OUTPUT = 2,   /* the output does not have 6 numbers (reads) or 311 (publish, move) */
+    CLOCHECLOAK_WRONG_TABLE = 1,    /* the table does not have 311 numbers (GTM: 65) */
+    CLOCHECLOAK_WRONG_OUTPUT = 2,   /* the output does not have 6 numbers (reads) or 311 (publish, move); GTM: 3, 65 */
     CLOCHECLOAK_BAD_LIMITS = 3,     /* the table's limits are not good */
     CLOCHECLOAK_TOO_HEAVY = 4,      /* a weight passes the cap */
-    CLOCHECLOAK_NO_VARIABLE = 5,    /* the variable is above 4 */
+    CLOCHECLOAK_NO_VARIABLE = 5,    /* the variable is above 4 (GTM: above 1) */
     CLOCHECLOAK_LIMIT_PAST = 6,     /* a moved limit would leave -2000..2000 */
     CLOCHECLOAK_MOVE_TOO_HEAVY = 7, /* the move passes the cap */
-    CLOCHECLOAK_OUTSIDE = 11,       /* and the variable's number: its reading is outside its limits */
-    CLOCHECLOAK_NOT_FINITE = 21     /* and the variable's number: its float is a NaN or an infinity */
+    CLOCHECLOAK_OUTSIDE = 11,       /* alpha's reading is outside its limits; 12 beta's, 13 xi's, 14 eta's, 15 zeta's */
+    CLOCHECLOAK_NOT_FINITE = 21     /* alpha's float is a NaN or an infinity; 22 to 25 the others' */
 };
 
 /* What a read with floats gives: the number; with 11 to 15 the reading that is outside, as given, and else 0.0; and the six
@@ -45,24 +50,37 @@ typedef struct {
 /* Writes the published Cumulus One table. Refusal 2. */
 uint64_t clochecloak_publish(int64_t *out, size_t out_count);
 
-/* Writes the six coefficients at a state. Refusals 1, 2, 3, 4, 11 to 15, in this order. */
+/* Writes the six coefficients of a Cumulus One table at a state. Refusals 1, 2, 3, 4, 11 to 15, in this order. */
 uint64_t clochecloak_read(const int64_t *table, size_t table_count, int64_t alpha, int64_t beta, int64_t xi, int64_t eta,
                           int64_t zeta, int64_t *out, size_t out_count);
 
-/* Writes the six coefficients of the published table, which is not handed over, at a state of whole microradians: six whole
- * numbers in units of 10^-9, each less than 7 of them off the printed model. Refusals 2, 11 to 15, in this order. */
+/* Writes the six coefficients of the published Cumulus One table, which is not handed over, at a state of whole microradians:
+ * six whole numbers in units of 10^-9, each less than 7 of them off the printed model. Refusals 2, 11 to 15, in this order. */
 uint64_t clochecloak_read_microradians(int64_t alpha, int64_t beta, int64_t xi, int64_t eta, int64_t zeta, int64_t *out,
                                        size_t out_count);
 
-/* The six coefficients at a state of floats in milliradians, each first rounded to the nearest whole number (half to even).
- * Refusals 1, 3, 4, 21 to 25, 11 to 15, in this order. */
+/* The six coefficients of a Cumulus One table at a state of floats in milliradians, each first rounded to the nearest whole
+ * number (half to even). Refusals 1, 3, 4, 21 to 25, 11 to 15, in this order. */
 clochecloak_answer clochecloak_read_floats(const int64_t *table, size_t table_count, double alpha, double beta, double xi,
                                            double eta, double zeta);
 
-/* Writes the table that answers at a reading less `shift` as this one does at the reading.
+/* Writes the Cumulus One table that answers at a reading less `shift` as this one does at the reading.
  * Refusals 1, 2, 5, 3, 4, 6, 7, in this order. */
 uint64_t clochecloak_move(const int64_t *table, size_t table_count, size_t variable, int64_t shift, int64_t *out,
                           size_t out_count);
+
+/* Writes the published table of the GTM's longitudinal model. Refusal 2. */
+uint64_t clochecloak_gtm_publish(int64_t *out, size_t out_count);
+
+/* Writes lift, drag and pitching moment of a GTM table at a state.
+ * Refusals 1, 2, 3, 4, 11 for alpha, 14 for eta, in this order. */
+uint64_t clochecloak_gtm_read(const int64_t *table, size_t table_count, int64_t alpha, int64_t eta, int64_t *out,
+                              size_t out_count);
+
+/* Writes the GTM table that answers at a reading less `shift` as this one does at the reading.
+ * Refusals 1, 2, 5, 3, 4, 6, 7, in this order. */
+uint64_t clochecloak_gtm_move(const int64_t *table, size_t table_count, size_t variable, int64_t shift, int64_t *out,
+                              size_t out_count);
 
 #ifdef __cplusplus
 }
