@@ -1,46 +1,25 @@
 /* The operations in strong plain C: the same checks, refusals and answers as the proved code, on every input. Weights are exact
  * and are worked out for every table, whatever its numbers. Readings within the limits of a sound table, and moves within the
  * weight rule, keep every sum and product on the way within 64 bits, so that values and moved numbers need no checks. */
-#include "peer.h"
+#include "groups.h"
 #include <math.h>
 #include <string.h>
 
-enum { LIMITS = 11, BLOCK = 50, BLOCKS = 6, TABLE = 311, COEFFICIENTS = 6, VARIABLES = 5, FARTHEST = 2000 };
+enum { LIMITS = 11, BLOCK = 50, BLOCKS = 6, TABLE = 311, COEFFICIENTS = 6, VARIABLES = 5 };
 enum { ALPHA, BETA, XI, ETA, ZETA };
 enum { LOW = 0, HIGH = 10, BETA_XI = 20, BETA_ZETA = 35 }; /* where the groups of a block start */
 enum { PITCH = 3, SIDE = 4 };                              /* their degrees */
 
-static const uint64_t CAP = 9000000000000000000;
 static const int START[4] = {LOW, HIGH, BETA_XI, BETA_ZETA}, DEGREE[4] = {PITCH, PITCH, SIDE, SIDE};
 static const int FIRST[4] = {ALPHA, ALPHA, BETA, BETA}, SECOND[4] = {ETA, ETA, XI, ZETA};
 
-/* Groups are small and have one of two degrees: with these the compiler makes straight code for each of them. Clang is left to
- * its own judgement, since it takes more instructions for a read when told to unroll. */
-#define INLINE static inline __attribute__((always_inline))
-#ifdef __clang__
-#define UNROLL
-#else
-#define UNROLL _Pragma("GCC unroll 16")
-#endif
-
-/* The place in its group of the term of total degree n with the power q of the second variable. */
-INLINE int place(int n, int q) { return n * (n + 1) / 2 + q; }
 INLINE int lowest(int v) { return v ? 2 * v + 1 : 0; }
 INLINE int highest(int v) { return 2 * v + 2; }
-INLINE uint64_t magnitude(int64_t x) { return x < 0 ? -(uint64_t)x : (uint64_t)x; }
 
 /* The reaches of the five variables, alpha's for the low piece; and alpha's for the high piece. */
 typedef struct {
     uint64_t of[VARIABLES], high;
 } reaches;
-
-/* Gives whether the limits are in order and in range. They are in range exactly if their reach is. */
-INLINE int reach(int64_t low, int64_t high, uint64_t *r) {
-    uint64_t a = magnitude(low), b = magnitude(high);
-    *r = a > b ? a : b;
-    if (*r == 0) *r = 1;
-    return low <= high && *r <= FARTHEST;
-}
 
 INLINE int good(const int64_t *t, reaches *r) {
     if (!reach(t[0], t[1], &r->of[ALPHA]) || !reach(t[1] + 1, t[2], &r->high)) return 0;
@@ -48,36 +27,6 @@ INLINE int good(const int64_t *t, reaches *r) {
         if (!reach(t[lowest(v)], t[highest(v)], &r->of[v])) return 0;
     return 1;
 }
-
-/* The products of the reaches for the terms of a group, each made from one of a degree less. */
-INLINE void multiply(uint64_t *f, int d, uint64_t r, uint64_t s) {
-    f[0] = 1;
-    UNROLL for (int n = 1; n <= d; n++) {
-        UNROLL for (int q = 0; q < n; q++) f[place(n, q)] = f[place(n - 1, q)] * r;
-        f[place(n, n)] = f[place(n - 1, n - 1)] * s;
-    }
-}
-
-/* A sum in 128 bits, in halves of which one is signed: of a plain unsigned __int128 gcc would work out all terms before it adds
- * the first, and the registers would not hold them. */
-typedef struct {
-    uint64_t low;
-    int64_t high;
-} wide;
-
-INLINE wide plus(wide w, unsigned __int128 x) {
-    int carry = __builtin_add_overflow(w.low, (uint64_t)x, &w.low);
-    w.high += (int64_t)(x >> 64) + carry;
-    return w;
-}
-
-INLINE wide weigh(wide w, const int64_t *g, const uint64_t *f, int d) {
-    w = plus(w, magnitude(g[0]));
-    UNROLL for (int k = 1; k < place(d + 1, 0); k++) w = plus(w, (unsigned __int128)magnitude(g[k]) * f[k]);
-    return w;
-}
-
-INLINE int past(wide w) { return w.high || w.low > CAP; }
 
 /* Whether all twelve weights are at most the cap. The side groups of a block are weighed once for both pieces. Not inlined: the
  * sums have the registers to themselves. */
@@ -105,18 +54,6 @@ static uint64_t unsound(const int64_t *t) {
 typedef struct {
     int64_t of[VARIABLES];
 } state;
-
-/* A group from the highest power down, rows in x inside and y outside. The terms with fewer than `from` powers of y are left out,
- * and the sum is divided by y to that power. */
-INLINE int64_t value(const int64_t *g, int d, int from, int64_t x, int64_t y) {
-    int64_t sum = 0;
-    UNROLL for (int q = d; q >= from; q--) {
-        int64_t row = 0;
-        UNROLL for (int n = d; n >= q; n--) row = row * x + g[place(n, q)];
-        sum = sum * y + row;
-    }
-    return sum;
-}
 
 /* The terms of both side groups that have powers of beta alone. */
 INLINE int64_t beta_alone(const int64_t *g, int64_t beta) {
@@ -237,22 +174,6 @@ INLINE int lengthen(const int64_t *t, int v, int64_t s, reaches *r) {
     if (!reach(t[1] + 1 - s, t[2] - s, &r->high)) return 0;
     r->high += magnitude(s);
     return 1;
-}
-
-/* A chain has the numbers of a group that differ only in the power of the moved variable, which is the first or the second. */
-INLINE void move_group(const int64_t *restrict g, int64_t *restrict out, int d, int second, int64_t s) {
-    UNROLL for (int other = 0; other <= d; other++) {
-        int64_t c[SIDE + 1];
-        int m = d - other;
-        UNROLL for (int k = 0; k <= m; k++) c[k] = g[place(other + k, second ? k : other)];
-        UNROLL for (int i = 0; i < m; i++)
-            UNROLL for (int k = m - 1; k >= i; k--) c[k] += s * c[k + 1];
-        UNROLL for (int k = 0; k <= m; k++) out[place(other + k, second ? k : other)] = c[k];
-    }
-}
-
-INLINE void copy_group(const int64_t *restrict g, int64_t *restrict out, int d) {
-    UNROLL for (int k = 0; k < place(d + 1, 0); k++) out[k] = g[k];
 }
 
 INLINE void move_table(const int64_t *restrict t, int64_t *restrict out, int v, int64_t s) {

@@ -9,3 +9,7 @@ clochecloak_answer peer_read_floats(const int64_t *t, size_t n, double a, double
 void peer_prepare(const int64_t *t);
 uint64_t peer_read_microradians(int64_t a, int64_t be, int64_t xi, int64_t e, int64_t z, int64_t *out, size_t m);
 uint64_t peer_move(const int64_t *t, size_t n, size_t v, int64_t s, int64_t *out, size_t m);
+
+/* Of the GTM's longitudinal table. */
+uint64_t peer_gtm_read(const int64_t *t, size_t n, int64_t a, int64_t e, int64_t *out, size_t m);
+uint64_t peer_gtm_move(const int64_t *t, size_t n, size_t v, int64_t s, int64_t *out, size_t m);

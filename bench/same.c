@@ -1,28 +1,43 @@
-/* Holds the peer to the archive: draws 100,000 cases, the same every time, and has each operation answer each of them twice. The
- * number given back, the whole lent space, which was filled before, and every bit of the floats have to be the same. Prints how
- * often each number was met, or the first difference. */
+/* Holds the peers to the archive: draws 100,000 cases of each model, the same every time, and has each operation answer each of
+ * them twice. The number given back, the whole lent space, which was filled before, and every bit of the floats have to be the
+ * same. Prints how often each number was met, or the first difference. */
 #include "peer.h"
 #include <math.h>
 #include <stdio.h>
 #include <stdlib.h>
 #include <string.h>
 
-enum { CASES = 100000, LIMITS = 11, BLOCK = 50, TABLE = 311, NUMBERS = 26 };
+enum { CASES = 100000, BLOCK_ROOM = 50, TABLE_ROOM = 311, NUMBERS = 26 };
 enum { READ, FLOATS, MICRORADIANS, MOVE, OPERATIONS };
 static const char *const NAMES[OPERATIONS] = {"read", "read with floats", "read in microradians", "move"};
+
+/* A model's tables: how many variables and blocks, and of the groups of a block where they start, their degrees and variables. */
+typedef struct {
+    const char *name;
+    int variables, limits, blocks, block, table, groups, start[4], degree[4], first[4], second[4];
+    uint64_t (*publish)(int64_t *, size_t);
+    uint64_t (*move)(const int64_t *, size_t, size_t, int64_t, int64_t *, size_t);
+    uint64_t (*peer_move)(const int64_t *, size_t, size_t, int64_t, int64_t *, size_t);
+} model;
+
+static const model CUMULUS = {"Cumulus One", 5, 11, 6, 50, 311, 4, {0, 10, 20, 35}, {3, 3, 4, 4}, {0, 0, 1, 1}, {3, 3, 2, 4},
+                              clochecloak_publish, clochecloak_move, peer_move};
+static const model GTM = {"GTM", 2, 5, 3, 20, 65, 2, {0, 10}, {3, 3}, {0, 0}, {1, 1},
+                          clochecloak_gtm_publish, clochecloak_gtm_move, peer_gtm_move};
+static const model *of; /* the one whose cases are drawn */
 
 typedef unsigned __int128 u128;
 static const int64_t CAP = 9000000000000000000;
 
 static uint64_t seed = 1;
-static int64_t published[TABLE];
+static int64_t published[TABLE_ROOM];
 static long met[OPERATIONS][NUMBERS], edges[2][3], drawn;
 
 /* One case. The readings are those of the reads in milliradians; those in microradians have limits of their own. */
 static struct {
-    int64_t table[TABLE], readings[5], microradians[5], shift;
+    int64_t table[TABLE_ROOM], readings[5], microradians[5], shift;
     double floats[5];
-    size_t table_count, six_count, moved_count, variable;
+    size_t table_count, answers_count, moved_count, variable;
 } now;
 
 /* ---- Drawing ---- */
@@ -49,7 +64,7 @@ static int highest(int v) { return 2 * v + 2; }
 
 static void good_limits(int64_t *t) {
     static const int SIZES[] = {0, 1, 2, 10, 100, 500, 1000, 2000};
-    for (int v = 0; v < 5; v++) {
+    for (int v = 0; v < of->variables; v++) {
         int64_t size = SIZES[below(8)], middle = one_in(2) ? 0 : between(size - 2000, 2000 - size);
         int64_t low = middle - size, high = middle + size;
         if (one_in(4)) low = between(low, high);
@@ -62,7 +77,7 @@ static void good_limits(int64_t *t) {
 
 /* One fault: a limit out of range, by one or by far, or two of them in the wrong order. */
 static void bad_limits(int64_t *t) {
-    int v = between(0, 4), k = between(0, LIMITS - 1);
+    int v = between(0, of->variables - 1), k = between(0, of->limits - 1);
     switch (below(4)) {
         case 0: t[k] = either(2001); break;
         case 1: t[k] = one_in(2) ? extreme() : either(between(2001, 100000)); break;
@@ -80,7 +95,7 @@ static int64_t moved_limit(int64_t limit) { return limit - now.shift; }
 
 /* A shift, often such that one limit lands on -2000 or 2000 or one beyond. */
 static int64_t draw_shift(const int64_t *t) {
-    int v = now.variable < 5 ? now.variable : 0;
+    int v = now.variable < (size_t)of->variables ? now.variable : 0;
     int64_t limit = t[one_in(2) ? lowest(v) : highest(v)], edge = either(2000), more = between(-1, 1);
     switch (below(8)) {
         case 0: return 0;
@@ -101,26 +116,25 @@ static int64_t reach(int64_t low, int64_t high) {
 
 static u128 magnitude(int64_t x) { return x < 0 ? -(u128)x : (u128)x; }
 
-/* The factors of the 50 places of a block in a piece: by the table's reaches, or by those of the rule for moves. Those of the
+/* The factors of the places of a block in a piece: by the table's reaches, or by those of the rule for moves. Those of the
  * other piece are 0. False where limits are not in range. */
 static int factors(const int64_t *t, int piece, int moves, u128 *f) {
-    static const int START[4] = {0, 10, 20, 35}, DEGREE[4] = {3, 3, 4, 4}, FIRST[4] = {0, 0, 1, 1}, SECOND[4] = {3, 3, 2, 4};
     int64_t r[5];
-    for (int k = 0; k < LIMITS; k++)
+    for (int k = 0; k < of->limits; k++)
         if (t[k] < -2000 || t[k] > 2000) return 0;
-    if (moves && (now.variable > 4 || now.shift < -4000 || now.shift > 4000)) return 0;
-    for (int v = 0; v < 5; v++) {
+    if (moves && (now.variable >= (size_t)of->variables || now.shift < -4000 || now.shift > 4000)) return 0;
+    for (int v = 0; v < of->variables; v++) {
         int64_t low = v || !piece ? t[lowest(v)] : t[1] + 1, high = v || piece ? t[highest(v)] : t[1];
         int here = moves && now.variable == (size_t)v;
         r[v] = here ? reach(moved_limit(low), moved_limit(high)) + labs(now.shift) : reach(low, high);
     }
-    memset(f, 0, BLOCK * sizeof *f);
-    for (int g = 0; g < 4; g++)
+    memset(f, 0, of->block * sizeof *f);
+    for (int g = 0; g < of->groups; g++)
         if (g != 1 - piece)
-            for (int n = 0, k = START[g]; n <= DEGREE[g]; n++)
+            for (int n = 0, k = of->start[g]; n <= of->degree[g]; n++)
                 for (int q = 0; q <= n; q++, k++) {
                     f[k] = 1;
-                    for (int i = 0; i < n; i++) f[k] *= i < q ? r[SECOND[g]] : r[FIRST[g]];
+                    for (int i = 0; i < n; i++) f[k] *= i < q ? r[of->second[g]] : r[of->first[g]];
                 }
     return 1;
 }
@@ -128,12 +142,12 @@ static int factors(const int64_t *t, int piece, int moves, u128 *f) {
 /* Sets one number of a block so that its weight in a piece comes as near to the cap as that number lets it, and then one more or
  * one less. */
 static void to_the_cap(int64_t *t, int moves, int more) {
-    int64_t *g = t + LIMITS + BLOCK * below(6);
-    int piece = below(2), at = below(BLOCK);
-    u128 f[BLOCK], rest = 0;
+    int64_t *g = t + of->limits + of->block * below(of->blocks);
+    int piece = below(2), at = below(of->block);
+    u128 f[BLOCK_ROOM], rest = 0;
     if (!factors(t, piece, moves, f)) return;
     if (!f[at] || one_in(3)) at = piece ? 10 : 0;
-    for (int k = 0; k < BLOCK; k++)
+    for (int k = 0; k < of->block; k++)
         if (k != at) rest += magnitude(g[k]) * f[k];
     if (rest > (u128)CAP) return;
     g[at] = either((int64_t)(((u128)CAP - rest) / f[at]) + more);
@@ -141,19 +155,19 @@ static void to_the_cap(int64_t *t, int moves, int more) {
 
 /* Numbers whose terms share the cap, so that weights lie at a drawn part of it. */
 static void shares(int64_t *t, int moves) {
-    u128 f[2][BLOCK];
+    u128 f[2][BLOCK_ROOM];
     int64_t share = CAP / (int64_t[]){15, 20, 25, 30, 1000}[below(5)];
     if (!factors(t, 0, moves, f[0]) || !factors(t, 1, moves, f[1])) return;
-    for (int k = 0; k < TABLE - LIMITS; k++) {
-        u128 a = f[0][k % BLOCK], b = f[1][k % BLOCK];
-        t[LIMITS + k] = either(below(share) / (uint64_t)(a > b ? a : b));
+    for (int k = 0; k < of->table - of->limits; k++) {
+        u128 a = f[0][k % of->block], b = f[1][k % of->block];
+        t[of->limits + k] = either(below(share) / (uint64_t)(a > b ? a : b));
     }
 }
 
 static void draw_numbers(int64_t *t) {
     int bits = between(0, 63), kind = below(8), moves = one_in(2);
     if (kind < 2) return; /* as published */
-    for (int k = LIMITS; k < TABLE; k++) switch (kind) {
+    for (int k = of->limits; k < of->table; k++) switch (kind) {
         case 2: t[k] = scaled(bits, bits); break;
         case 3: t[k] = scaled(bits, 63); break;
         case 4: t[k] = one_in(20) ? scaled(10, 63) : 0; break;
@@ -165,21 +179,21 @@ static void draw_numbers(int64_t *t) {
         to_the_cap(t, moves, between(-1, 1));
     }
     if (one_in(40)) {
-        int at = between(LIMITS, TABLE - 1);
+        int at = between(of->limits, of->table - 1);
         t[at] = extreme();
     }
 }
 
 /* A table: the published one, one moved from it, or one with limits and numbers of its own. */
 static void draw_table(void) {
-    int numbers = 0, v = below(5);
+    int numbers = 0, v = below(of->variables);
     int64_t s = either(between(1, 300));
     memcpy(now.table, published, sizeof published);
-    now.variable = one_in(40) ? (one_in(2) ? 5 : word()) : below(5);
+    now.variable = one_in(40) ? (one_in(2) ? (size_t)of->variables : word()) : below(of->variables);
     now.shift = draw_shift(now.table);
     switch (below(8)) {
         case 0: return;
-        case 1: clochecloak_move(published, TABLE, v, s, now.table, TABLE); break;
+        case 1: of->move(published, of->table, v, s, now.table, of->table); break;
         default: draw_limits(now.table), numbers = 1;
     }
     now.shift = draw_shift(now.table);
@@ -207,16 +221,17 @@ static double draw_float(int64_t near, int64_t limit) {
     return one_in(3) ? (double)near : (double)near + PARTS[below(8)];
 }
 
+/* Of the wrong counts some are right ones of another operation, or of the other model. */
 static size_t draw_count(size_t right) {
-    static const size_t OTHERS[] = {0, 1, 5, 6, 7, 310, 311, 312, SIZE_MAX};
-    return one_in(50) ? OTHERS[below(9)] : right;
+    static const size_t OTHERS[2][9] = {{0, 1, 5, 6, 7, 310, 311, 312, SIZE_MAX}, {0, 2, 3, 4, 64, 65, 66, 311, SIZE_MAX}};
+    return one_in(50) ? OTHERS[of == &GTM][below(9)] : right;
 }
 
 static void draw_case(void) {
     static const int64_t LOW[5] = {-150000, -500000, -200000, -400000, -500000};
     static const int64_t HIGH[5] = {1000000, 500000, 200000, 400000, 500000};
     draw_table();
-    for (int v = 0; v < 5; v++) {
+    for (int v = 0; v < of->variables; v++) {
         int64_t low = now.table[lowest(v)], high = now.table[highest(v)];
         now.readings[v] = draw_reading(low, high);
         now.floats[v] = draw_float(now.readings[v], one_in(2) ? low : high);
@@ -224,7 +239,8 @@ static void draw_case(void) {
     }
     if (one_in(10)) now.readings[0] = now.table[1]; /* the last of the low piece */
     if (one_in(10)) now.microradians[0] = between(313265, 313275);
-    now.table_count = draw_count(TABLE), now.six_count = draw_count(6), now.moved_count = draw_count(TABLE);
+    now.table_count = draw_count(of->table), now.answers_count = draw_count(of->blocks);
+    now.moved_count = draw_count(of->table);
 }
 
 /* ---- Comparing ---- */
@@ -234,25 +250,36 @@ static void hold(int operation, uint64_t ours, uint64_t peers, const void *a, co
         met[operation][ours]++;
         return;
     }
-    printf("same: case %ld, %s: the archive gives back %llu, the peer %llu, and what they wrote is %s\n", drawn, NAMES[operation],
-           (unsigned long long)ours, (unsigned long long)peers, memcmp(a, b, bytes) ? "not the same" : "the same");
+    printf("same: %s, case %ld, %s: the archive gives back %llu, the peer %llu, and what they wrote is %s\n", of->name, drawn,
+           NAMES[operation], (unsigned long long)ours, (unsigned long long)peers,
+           memcmp(a, b, bytes) ? "not the same" : "the same");
     exit(1);
 }
 
 /* The spaces are a number longer than what is lent, and start with the same drawn bytes. */
+static int64_t a[TABLE_ROOM + 1], b[TABLE_ROOM + 1];
+
+static void hold_slice(int operation, uint64_t ours, uint64_t peers) { hold(operation, ours, peers, a, b, sizeof a); }
+
 static void compare(void) {
-    static int64_t a[TABLE + 1], b[TABLE + 1];
     const int64_t *t = now.table, *x = now.readings, *m = now.microradians;
     const double *f = now.floats;
-    const size_t n = now.table_count, six = now.six_count;
+    const size_t n = now.table_count, count = now.answers_count;
+    uint64_t ours;
     memset(a, (int)word(), sizeof a);
     memcpy(b, a, sizeof b);
-    uint64_t ours = clochecloak_read(t, n, x[0], x[1], x[2], x[3], x[4], a, six);
-    hold(READ, ours, peer_read(t, n, x[0], x[1], x[2], x[3], x[4], b, six), a, b, sizeof a);
-    ours = clochecloak_read_microradians(m[0], m[1], m[2], m[3], m[4], a, six);
-    hold(MICRORADIANS, ours, peer_read_microradians(m[0], m[1], m[2], m[3], m[4], b, six), a, b, sizeof a);
-    ours = clochecloak_move(t, n, now.variable, now.shift, a, now.moved_count);
-    hold(MOVE, ours, peer_move(t, n, now.variable, now.shift, b, now.moved_count), a, b, sizeof a);
+    if (of == &GTM) {
+        ours = clochecloak_gtm_read(t, n, x[0], x[1], a, count);
+        hold_slice(READ, ours, peer_gtm_read(t, n, x[0], x[1], b, count));
+    } else {
+        ours = clochecloak_read(t, n, x[0], x[1], x[2], x[3], x[4], a, count);
+        hold_slice(READ, ours, peer_read(t, n, x[0], x[1], x[2], x[3], x[4], b, count));
+        ours = clochecloak_read_microradians(m[0], m[1], m[2], m[3], m[4], a, count);
+        hold_slice(MICRORADIANS, ours, peer_read_microradians(m[0], m[1], m[2], m[3], m[4], b, count));
+    }
+    ours = of->move(t, n, now.variable, now.shift, a, now.moved_count);
+    hold_slice(MOVE, ours, of->peer_move(t, n, now.variable, now.shift, b, now.moved_count));
+    if (of == &GTM) return;
     clochecloak_answer p = clochecloak_read_floats(t, n, f[0], f[1], f[2], f[3], f[4]);
     clochecloak_answer q = peer_read_floats(t, n, f[0], f[1], f[2], f[3], f[4]);
     hold(FLOATS, p.number, q.number, &p, &q, sizeof p);
@@ -260,12 +287,13 @@ static void compare(void) {
 
 /* How far the heaviest weight is past the cap, where limits are in range; -2 and 2 stand for all that is farther. */
 static int past(int moves) {
-    u128 f[BLOCK], most = 0;
+    u128 f[BLOCK_ROOM], most = 0;
     for (int piece = 0; piece < 2; piece++) {
         if (!factors(now.table, piece, moves, f)) return -2;
-        for (int b = 0; b < 6; b++) {
+        for (int b = 0; b < of->blocks; b++) {
+            const int64_t *g = now.table + of->limits + of->block * b;
             u128 weight = 0;
-            for (int k = 0; k < BLOCK; k++) weight += magnitude(now.table[LIMITS + BLOCK * b + k]) * f[k];
+            for (int k = 0; k < of->block; k++) weight += magnitude(g[k]) * f[k];
             if (weight > most) most = weight;
         }
     }
@@ -279,23 +307,30 @@ static void count_edges(void) {
     }
 }
 
-int main(void) {
-    clochecloak_publish(published, TABLE);
-    peer_prepare(published);
-    for (; drawn < CASES; drawn++) {
+static void hold_model(const model *which) {
+    of = which;
+    memset(met, 0, sizeof met), memset(edges, 0, sizeof edges);
+    of->publish(published, of->table);
+    if (of == &CUMULUS) peer_prepare(published);
+    for (drawn = 0; drawn < CASES; drawn++) {
         draw_case();
         count_edges();
         compare();
     }
-    printf("The peer and the archive give the same in %d drawn cases. How often each number was given back:\n", CASES);
+    printf("%s: the peer and the archive give the same in %d drawn cases. How often each number was given back:\n", of->name, CASES);
     for (int o = 0; o < OPERATIONS; o++) {
-        printf("%s:", NAMES[o]);
-        for (int k = 0, some = 0; k < NUMBERS; k++)
-            if (met[o][k]) printf("%s %d %ld", some++ ? "," : "", k, met[o][k]);
-        printf("\n");
+        int some = 0;
+        for (int k = 0; k < NUMBERS; k++)
+            if (met[o][k]) printf("%s%s %d %ld", some ? "" : NAMES[o], some ? "," : ":", k, met[o][k]), some = 1;
+        if (some) printf("\n");
     }
     for (int moves = 0; moves < 2; moves++)
         printf("heaviest weight of a %s one below the cap, at it, one past it: %ld, %ld, %ld\n", moves ? "move" : "table",
                edges[moves][0], edges[moves][1], edges[moves][2]);
+}
+
+int main(void) {
+    hold_model(&CUMULUS);
+    hold_model(&GTM);
     return 0;
 }
