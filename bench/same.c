@@ -11,7 +11,7 @@ enum { CASES = 100000, BLOCK_ROOM = 50, TABLE_ROOM = 311, NUMBERS = 26 };
 enum { READ, FLOATS, MICRORADIANS, MOVE, OPERATIONS };
 static const char *const NAMES[OPERATIONS] = {"read", "read with floats", "read in microradians", "move"};
 
-/* A model's tables: how many variables and blocks, and of the groups of a block where they start, their degrees and variables. */
+/* A model's tables: how many there are of each part; of the groups of a block where they start, their degrees and variables. */
 typedef struct {
     const char *name;
     int variables, limits, blocks, block, table, groups, start[4], degree[4], first[4], second[4];
@@ -317,7 +317,8 @@ static void hold_model(const model *which) {
         count_edges();
         compare();
     }
-    printf("%s: the peer and the archive give the same in %d drawn cases. How often each number was given back:\n", of->name, CASES);
+    printf("%s: the peer and the archive give the same in %d drawn cases. How often each number was given back:\n", of->name,
+           CASES);
     for (int o = 0; o < OPERATIONS; o++) {
         int some = 0;
         for (int k = 0; k < NUMBERS; k++)

@@ -1,8 +1,8 @@
 /* How many bytes of the stack a read takes, with its arguments and return address (and, with floats, its answer): it runs on a
  * stack of its own that was filled with one byte, and the lowest changed place shows how deep it went. The deepest counts of
  * three tables, one sound, one sound and near the cap, one refused for its weight, each read in both pieces. Bytes that are
- * written below the stack pointer, in the red zone, count as well. Fails where a read in milliradians, of either model, passes the
- * bytes that are allowed: stack [ALLOWED]. */
+ * written below the stack pointer, in the red zone, count as well. Fails where a read in milliradians, of either model, passes
+ * the bytes that are allowed: stack [ALLOWED]. */
 #include "clochecloak.h"
 #include <stdio.h>
 #include <stdlib.h>
@@ -15,6 +15,7 @@ static unsigned char stack[SPACE], *frame;
 static ucontext_t here, there;
 static int64_t tables[TABLES][CLOCHECLOAK_TABLE], gtm_tables[TABLES][CLOCHECLOAK_GTM_TABLE], *table, *gtm_table, alpha, six[6];
 static clochecloak_answer floats;
+static volatile uint64_t number;
 
 /* One call each: a caller of several would keep things of its own on the stack between them. */
 static void read_once(void) {
@@ -32,9 +33,10 @@ static void read_microradians_once(void) {
     clochecloak_read_microradians(alpha * 1000, 20500, -30000, 40000, -50000, six, CLOCHECLOAK_COEFFICIENTS);
 }
 
+/* Its arguments are all in registers: were the number not kept, the call would be a jump, with no return address of its own. */
 static void gtm_read_once(void) {
     frame = __builtin_frame_address(0);
-    clochecloak_gtm_read(gtm_table, CLOCHECLOAK_GTM_TABLE, alpha, 40, six, CLOCHECLOAK_GTM_COEFFICIENTS);
+    number = clochecloak_gtm_read(gtm_table, CLOCHECLOAK_GTM_TABLE, alpha, 40, six, CLOCHECLOAK_GTM_COEFFICIENTS);
 }
 
 static ptrdiff_t depth_over(unsigned char fill, void (*call)(void)) {
