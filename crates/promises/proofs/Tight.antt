@@ -271,6 +271,15 @@ clochecloak-read-microradians-tight κs a o p = tight o p (search same)
 pub clochecloak-move-tight : Tight clochecloak.clochecloak_move.ended clochecloak.clochecloak_move.Reads.Post
 clochecloak-move-tight κs a o p = tight o p (search same)
 
+pub clochecloak-gtm-publish-tight : Tight clochecloak.clochecloak_gtm_publish.ended clochecloak.clochecloak_gtm_publish.Reads.Post
+clochecloak-gtm-publish-tight κs a o p = tight o p (search same)
+
+pub clochecloak-gtm-read-tight : Tight clochecloak.clochecloak_gtm_read.ended clochecloak.clochecloak_gtm_read.Reads.Post
+clochecloak-gtm-read-tight κs a o p = tight o p (search same)
+
+pub clochecloak-gtm-move-tight : Tight clochecloak.clochecloak_gtm_move.ended clochecloak.clochecloak_gtm_move.Reads.Post
+clochecloak-gtm-move-tight κs a o p = tight o p (search same)
+
 pub clochecloak-read-floats-tight : Tight clochecloak.clochecloak_read_floats.ended clochecloak.clochecloak_read_floats.Reads.Post
 clochecloak-read-floats-tight κs a o p = tight o p (search same)
 
