@@ -9,34 +9,52 @@ use Rattle.numbers.specs.Numbers.{magnitude, naturalAt, signedAt, bitsAt}
 use Rattle.numbers.specs.declared.Kind.{Kind}
 use Rattle.numbers.specs.declared.Kind.the-variants.{Natural, Signed, Bits}
 use Rattle.words.specs.Text.{text}
+use Rattle.layout.specs.declared.Model.{Model}
+use Rattle.layout.specs.declared.Model.the-variants.{Cumulus, Gtm}
 use Rattle.commands.specs.declared.Name.{Name}
 use Rattle.commands.specs.declared.Name.the-variants as N
 use Rattle.commands.specs.declared.Operation.{Operation}
 use Rattle.commands.specs.declared.Operation.the-variants as O
-use Rattle.commands.specs.declared.Five.{Five}
 use Rattle.commands.specs.declared.Keeping.{Keeping}
 use Rattle.commands.specs.declared.Keeping.the-variants as K
 use Rattle.commands.specs.declared.Command.{Command}
 use Rattle.commands.specs.declared.Command.the-variants as C
 
--- ════ names: a word's place among them, which is eleven where it is none of them
+-- ════ names: a word's place among them, which is their number where it is none of them
 unfoldable pub names : List ℕ
-names = text "publish move read floats microradians length set fill copy show sum"
+names = text "publish move read floats microradians gtm_publish gtm_move gtm_read length set fill copy show sum"
 
 abbrev pub place : List ℕ → List (List ℕ) → ℕ
 place word [] = 0
 place word (w ∷ ws) = cond (same word w) 0 (suc (place word ws))
 
+abbrev pub named : List Name
+named =
+    N.Publish
+    ∷ N.Move
+    ∷ N.Read
+    ∷ N.Floats
+    ∷ N.Microradians
+    ∷ N.GtmPublish
+    ∷ N.GtmMove
+    ∷ N.GtmRead
+    ∷ N.Length
+    ∷ N.Set
+    ∷ N.Fill
+    ∷ N.Copy
+    ∷ N.Show
+    ∷ N.Sum
+    ∷ []
+
+abbrev pub nameCount : ℕ
+nameCount = length named
+
 abbrev pub nameAt : ℕ → Name
-nameAt p =
-    getD
-    (N.Publish ∷ N.Move ∷ N.Read ∷ N.Floats ∷ N.Microradians ∷ N.Length ∷ N.Set ∷ N.Fill ∷ N.Copy ∷ N.Show ∷ N.Sum ∷ [])
-    p
-    N.Other
+nameAt p = getD named p N.Other
 
 -- ════ the words behind a name: natural, signed or bits, for each name in the same order
 unfoldable pub kinds : List ℕ
-kinds = text "n nnsn nnsssss nbbbbb nsssss nn nns nnnnn nn nnn n"
+kinds = text "n nnsn nnsssss nbbbbb nsssss n nnsn nnss nn nns nnnnn nn nnn n"
 
 abbrev pub kindOf : ℕ → Kind
 kindOf b = cond (eqb b 110) Natural (cond (eqb b 115) Signed Bits)
@@ -49,20 +67,24 @@ fit (w ∷ ws) [] = false
 fit (w ∷ ws) (b ∷ bs) = magnitude (kindOf b) w .said && fit ws bs
 
 -- ════ what is asked, where they fit
--- the words behind the name as naturals
-abbrev pub naturals : List ℕ → Five
-naturals l =
-    record { one = naturalAt l 1; two = naturalAt l 2; three = naturalAt l 3; four = naturalAt l 4; five = naturalAt l 5 }
+abbrev pub publish : Model → List ℕ → Command
+publish m l = C.Operation (O.Publish m (naturalAt l 1))
+
+abbrev pub moveZero : Model → List ℕ → Command
+moveZero m l = C.Operation (O.Move m (naturalAt l 1) (naturalAt l 2) (signedAt l 3) (naturalAt l 4))
 
 abbrev pub asked : Name → List ℕ → Command
-asked N.Publish l = C.Operation (O.Publish (naturalAt l 1))
-asked N.Move l = C.Operation (O.Move (naturalAt l 1) (naturalAt l 2) (signedAt l 3) (naturalAt l 4))
+asked N.Publish l = publish Cumulus l
+asked N.Move l = moveZero Cumulus l
 asked N.Read l =
     C.Operation (O.Read (naturalAt l 1) (naturalAt l 2) (signedAt l 3) (signedAt l 4) (signedAt l 5) (signedAt l 6) (signedAt l 7))
 asked N.Floats l =
     C.Operation (O.Floats (naturalAt l 1) (bitsAt l 2) (bitsAt l 3) (bitsAt l 4) (bitsAt l 5) (bitsAt l 6))
 asked N.Microradians l =
     C.Operation (O.Microradians (naturalAt l 1) (signedAt l 2) (signedAt l 3) (signedAt l 4) (signedAt l 5) (signedAt l 6))
+asked N.GtmPublish l = publish Gtm l
+asked N.GtmMove l = moveZero Gtm l
+asked N.GtmRead l = C.Operation (O.GtmRead (naturalAt l 1) (naturalAt l 2) (signedAt l 3) (signedAt l 4))
 asked N.Length l = C.Keeping (K.Length (naturalAt l 1) (naturalAt l 2))
 asked N.Set l = C.Keeping (K.Set (naturalAt l 1) (naturalAt l 2) (signedAt l 3))
 asked N.Fill l =

@@ -4,7 +4,8 @@ ghost use Prim.Native.Nat.{_≤_, _<_};
 ghost use lib.ListN.{length, drop};
 ghost use lib.Seq.{slice};
 ghost use Rattle.words.specs.Words.{words, wordAt};
-ghost use Rattle.commands.specs.Commands.{place, placeOf, nameAt, kindOf, fit, fits, naturals, asked, startsWith, command};
+ghost use Rattle.commands.specs.Commands.{nameCount, place, placeOf, nameAt, kindOf, fit, fits, publish, moveZero, asked, startsWith, command};
+use layout::Model;
 use numbers::Kind;
 use numbers::bits_at;
 use numbers::is_number;
@@ -21,6 +22,9 @@ pub enum Name {
     Read,
     Floats,
     Microradians,
+    GtmPublish,
+    GtmMove,
+    GtmRead,
     Length,
     Set,
     Fill,
@@ -33,9 +37,11 @@ pub enum Name {
 // What is asked of the library.
 pub enum Operation {
     Publish {
+        model: Model,
         into: u64,
     },
     Move {
+        model: Model,
         space: u64,
         variable: u64,
         shift: i64,
@@ -65,6 +71,12 @@ pub enum Operation {
         xi: i64,
         eta: i64,
         zeta: i64,
+    },
+    GtmRead {
+        space: u64,
+        room: u64,
+        alpha: i64,
+        eta: i64,
     },
 }
 
@@ -108,24 +120,12 @@ pub enum Command {
     Keeping { keeping: Keeping },
 }
 
-// The numbers of five words.
-struct Five {
-    one: u64,
-    two: u64,
-    three: u64,
-    four: u64,
-    five: u64,
-}
-
 // How many names there are.
-const NAMES: usize = 11;
-
-// How many of them, the first ones, are operations.
-const OPERATIONS: usize = 5;
+const NAMES: usize = 14;
 
 // The place of the first word of a line among names.
 fn place_in(line: &[u8], names: &[u8]) -> usize
-    requires { ⌜ length (words (now names)) ≡ 11 ⌝ }
+    requires { ⌜ length (words (now names)) ≡ nameCount ⌝ }
     ensures { λ r. ⌜ r ≡ place (wordAt (now (line .entry)) 0) (words (now (names .entry))) ⌝ }
 {
     let mut k: usize = 0;
@@ -143,7 +143,7 @@ fn place_of(line: &[u8]) -> usize
 {
     place_in(
         line,
-        b"publish move read floats microradians length set fill copy show sum",
+        b"publish move read floats microradians gtm_publish gtm_move gtm_read length set fill copy show sum",
     )
 }
 
@@ -189,7 +189,7 @@ fn fits(line: &[u8], place: usize) -> bool
 {
     fits_in(
         line,
-        b"n nnsn nnsssss nbbbbb nsssss nn nns nnnnn nn nnn n",
+        b"n nnsn nnsssss nbbbbb nsssss n nnsn nnss nn nns nnnnn nn nnn n",
         place,
     )
 }
@@ -203,140 +203,194 @@ fn name_at(place: usize) -> Name
         2 => Name::Read,
         3 => Name::Floats,
         4 => Name::Microradians,
-        5 => Name::Length,
-        6 => Name::Set,
-        7 => Name::Fill,
-        8 => Name::Copy,
-        9 => Name::Show,
-        10 => Name::Sum,
+        5 => Name::GtmPublish,
+        6 => Name::GtmMove,
+        7 => Name::GtmRead,
+        8 => Name::Length,
+        9 => Name::Set,
+        10 => Name::Fill,
+        11 => Name::Copy,
+        12 => Name::Show,
+        13 => Name::Sum,
         _ => Name::Other,
     }
 }
 
-fn reading(line: &[u8]) -> Operation
-    ensures { λ r. ⌜ Command.Operation r ≡ asked Name.Read (now (line .entry)) ⌝ }
+fn publish(line: &[u8], model: Model) -> Command
+    ensures { λ r. ⌜ r ≡ publish model (now (line .entry)) ⌝ }
 {
-    Operation::Read {
-        space: natural_at(line, 1),
-        room: natural_at(line, 2),
-        alpha: signed_at(line, 3),
-        beta: signed_at(line, 4),
-        xi: signed_at(line, 5),
-        eta: signed_at(line, 6),
-        zeta: signed_at(line, 7),
+    Command::Operation {
+        operation: Operation::Publish {
+            model: model,
+            into: natural_at(line, 1),
+        },
     }
 }
 
-fn reading_floats(line: &[u8]) -> Operation
-    ensures { λ r. ⌜ Command.Operation r ≡ asked Name.Floats (now (line .entry)) ⌝ }
+fn move_zero(line: &[u8], model: Model) -> Command
+    ensures { λ r. ⌜ r ≡ moveZero model (now (line .entry)) ⌝ }
 {
-    Operation::Floats {
-        space: natural_at(line, 1),
-        alpha: bits_at(line, 2),
-        beta: bits_at(line, 3),
-        xi: bits_at(line, 4),
-        eta: bits_at(line, 5),
-        zeta: bits_at(line, 6),
-    }
-}
-
-fn reading_microradians(line: &[u8]) -> Operation
-    ensures { λ r. ⌜ Command.Operation r ≡ asked Name.Microradians (now (line .entry)) ⌝ }
-{
-    Operation::Microradians {
-        room: natural_at(line, 1),
-        alpha: signed_at(line, 2),
-        beta: signed_at(line, 3),
-        xi: signed_at(line, 4),
-        eta: signed_at(line, 5),
-        zeta: signed_at(line, 6),
-    }
-}
-
-// The words behind the name as naturals.
-fn naturals(line: &[u8]) -> Five
-    ensures { λ r. ⌜ r ≡ naturals (now (line .entry)) ⌝ }
-{
-    Five {
-        one: natural_at(line, 1),
-        two: natural_at(line, 2),
-        three: natural_at(line, 3),
-        four: natural_at(line, 4),
-        five: natural_at(line, 5),
-    }
-}
-
-// What the commands at the first five places ask of the library.
-fn operation_at(line: &[u8], place: usize) -> Operation
-    requires { ⌜ place < 5 ⌝ }
-    ensures { λ r. ⌜ Command.Operation r ≡ asked (nameAt place) (now (line .entry)) ⌝ }
-{
-    let n = naturals(line);
-    match place {
-        0 => Operation::Publish { into: n.one },
-        1 => Operation::Move {
-            space: n.one,
-            variable: n.two,
+    Command::Operation {
+        operation: Operation::Move {
+            model: model,
+            space: natural_at(line, 1),
+            variable: natural_at(line, 2),
             shift: signed_at(line, 3),
-            into: n.four,
+            into: natural_at(line, 4),
         },
-        2 => reading(line),
-        3 => reading_floats(line),
-        _ => reading_microradians(line),
     }
 }
 
-// What the other commands do with the spaces.
-fn keeping_at(line: &[u8], place: usize) -> Keeping
-    requires { ⌜ (5 ≤ place) × (place < 11) ⌝ }
-    ensures { λ r. ⌜ Command.Keeping r ≡ asked (nameAt place) (now (line .entry)) ⌝ }
+fn read(line: &[u8]) -> Command
+    ensures { λ r. ⌜ r ≡ asked Name.Read (now (line .entry)) ⌝ }
 {
-    let n = naturals(line);
-    match place {
-        5 => Keeping::Length {
-            space: n.one,
-            count: n.two,
+    Command::Operation {
+        operation: Operation::Read {
+            space: natural_at(line, 1),
+            room: natural_at(line, 2),
+            alpha: signed_at(line, 3),
+            beta: signed_at(line, 4),
+            xi: signed_at(line, 5),
+            eta: signed_at(line, 6),
+            zeta: signed_at(line, 7),
         },
-        6 => Keeping::Set {
-            space: n.one,
-            place: n.two,
+    }
+}
+
+fn floats(line: &[u8]) -> Command
+    ensures { λ r. ⌜ r ≡ asked Name.Floats (now (line .entry)) ⌝ }
+{
+    Command::Operation {
+        operation: Operation::Floats {
+            space: natural_at(line, 1),
+            alpha: bits_at(line, 2),
+            beta: bits_at(line, 3),
+            xi: bits_at(line, 4),
+            eta: bits_at(line, 5),
+            zeta: bits_at(line, 6),
+        },
+    }
+}
+
+fn microradians(line: &[u8]) -> Command
+    ensures { λ r. ⌜ r ≡ asked Name.Microradians (now (line .entry)) ⌝ }
+{
+    Command::Operation {
+        operation: Operation::Microradians {
+            room: natural_at(line, 1),
+            alpha: signed_at(line, 2),
+            beta: signed_at(line, 3),
+            xi: signed_at(line, 4),
+            eta: signed_at(line, 5),
+            zeta: signed_at(line, 6),
+        },
+    }
+}
+
+fn gtm_read(line: &[u8]) -> Command
+    ensures { λ r. ⌜ r ≡ asked Name.GtmRead (now (line .entry)) ⌝ }
+{
+    Command::Operation {
+        operation: Operation::GtmRead {
+            space: natural_at(line, 1),
+            room: natural_at(line, 2),
+            alpha: signed_at(line, 3),
+            eta: signed_at(line, 4),
+        },
+    }
+}
+
+fn length(line: &[u8]) -> Command
+    ensures { λ r. ⌜ r ≡ asked Name.Length (now (line .entry)) ⌝ }
+{
+    Command::Keeping {
+        keeping: Keeping::Length {
+            space: natural_at(line, 1),
+            count: natural_at(line, 2),
+        },
+    }
+}
+
+fn set(line: &[u8]) -> Command
+    ensures { λ r. ⌜ r ≡ asked Name.Set (now (line .entry)) ⌝ }
+{
+    Command::Keeping {
+        keeping: Keeping::Set {
+            space: natural_at(line, 1),
+            place: natural_at(line, 2),
             number: signed_at(line, 3),
         },
-        7 => Keeping::Fill {
-            space: n.one,
-            place: n.two,
-            step: n.three,
-            size: n.four,
-            seed: n.five,
-        },
-        8 => Keeping::Copy {
-            space: n.one,
-            into: n.two,
-        },
-        9 => Keeping::Show {
-            space: n.one,
-            place: n.two,
-            count: n.three,
-        },
-        _ => Keeping::Sum { space: n.one },
     }
 }
 
-// What the command at a place asks for.
-fn asked(line: &[u8], place: usize) -> Command
-    ensures { λ r. ⌜ r ≡ asked (nameAt place) (now (line .entry)) ⌝ }
+fn fill(line: &[u8]) -> Command
+    ensures { λ r. ⌜ r ≡ asked Name.Fill (now (line .entry)) ⌝ }
 {
-    if place < OPERATIONS {
-        return Command::Operation {
-            operation: operation_at(line, place),
-        };
+    Command::Keeping {
+        keeping: Keeping::Fill {
+            space: natural_at(line, 1),
+            place: natural_at(line, 2),
+            step: natural_at(line, 3),
+            size: natural_at(line, 4),
+            seed: natural_at(line, 5),
+        },
     }
-    if place < NAMES {
-        return Command::Keeping {
-            keeping: keeping_at(line, place),
-        };
+}
+
+fn copy(line: &[u8]) -> Command
+    ensures { λ r. ⌜ r ≡ asked Name.Copy (now (line .entry)) ⌝ }
+{
+    Command::Keeping {
+        keeping: Keeping::Copy {
+            space: natural_at(line, 1),
+            into: natural_at(line, 2),
+        },
     }
-    Command::Misused { name: Name::Other }
+}
+
+fn show(line: &[u8]) -> Command
+    ensures { λ r. ⌜ r ≡ asked Name.Show (now (line .entry)) ⌝ }
+{
+    Command::Keeping {
+        keeping: Keeping::Show {
+            space: natural_at(line, 1),
+            place: natural_at(line, 2),
+            count: natural_at(line, 3),
+        },
+    }
+}
+
+fn sum(line: &[u8]) -> Command
+    ensures { λ r. ⌜ r ≡ asked Name.Sum (now (line .entry)) ⌝ }
+{
+    Command::Keeping {
+        keeping: Keeping::Sum {
+            space: natural_at(line, 1),
+        },
+    }
+}
+
+// What a command whose words fit asks for.
+fn asked(line: &[u8], name: Name) -> Command
+    ensures { λ r. ⌜ r ≡ asked name (now (line .entry)) ⌝ }
+{
+    match name {
+        Name::Publish => publish(line, Model::Cumulus),
+        Name::Move => move_zero(line, Model::Cumulus),
+        Name::Read => read(line),
+        Name::Floats => floats(line),
+        Name::Microradians => microradians(line),
+        Name::GtmPublish => publish(line, Model::Gtm),
+        Name::GtmMove => move_zero(line, Model::Gtm),
+        Name::GtmRead => gtm_read(line),
+        Name::Length => length(line),
+        Name::Set => set(line),
+        Name::Fill => fill(line),
+        Name::Copy => copy(line),
+        Name::Show => show(line),
+        Name::Sum => sum(line),
+        Name::Other => Command::Misused { name: Name::Other },
+    }
 }
 
 // Whether the first word, which is there, starts with `#`.
@@ -359,10 +413,9 @@ pub fn command_of(line: &[u8]) -> Command
         return Command::Comment;
     }
     let place = place_of(line);
+    let name = name_at(place);
     if fits(line, place) {
-        return asked(line, place);
+        return asked(line, name);
     }
-    Command::Misused {
-        name: name_at(place),
-    }
+    Command::Misused { name: name }
 }

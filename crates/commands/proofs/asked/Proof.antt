@@ -1,31 +1,63 @@
--- `commands::asked` meets its contract: operations come first, and behind the names stands none.
--- Assumes nothing.
-use mathlib.Core.Path.{sym, ap}
-use mathlib.Core.List.{[], _∷_}
+-- `commands::asked` meets its contract: by the cases of the name. Assumes nothing.
+use mathlib.Core.Path.{_≡_, refl, sym, ap, _∙_}
+use mathlib.Core.List.{List}
+use Prim.Native.Nat.{ℕ}
 use borrow.Author.Needs.{needs}
-use lib.ListN.{List·getD-eq-default}
 use Rattle.commands.specs.Commands.{asked}
-use Rattle.commands.specs.declared.Name.the-variants as N
+use Rattle.commands.specs.declared.Name.{Name}
+use Rattle.commands.specs.declared.Command.{Command}
 use Rattle.commands.proofs.asked.Statement.{statement}
 use Rattle.commands.proofs.asked.Tie as tie
 
-operation-at-requires : tie.Need-operation-at-requires
-operation-at-requires c κs = search needs
-
-returns : tie.Need-returns
-returns c = c .operation-at .ensures
-
-keeping-at-requires : tie.Need-keeping-at-requires
-keeping-at-requires c κs = search needs
-
-returns-2 : tie.Need-returns-2
-returns-2 c = c .keeping-at .ensures
-
-returns-3 : tie.Need-returns-3
-returns-3 c =
-    let a = c .before .before .before .args in
-    sym (ap (λ n. asked n (a .line .now)) (List·getD-eq-default (N.Publish ∷ N.Move ∷ N.Read ∷ N.Floats ∷ N.Microradians ∷ N.Length ∷ N.Set ∷ N.Fill ∷ N.Copy ∷ N.Show ∷ N.Sum ∷ []) N.Other {n = a .place} (c .if2 .left)))
+-- what is asked by a name is asked by one that it equals
+by-name : {n m : Name} {r : Command} (l : List ℕ) → r ≡ asked m l → n ≡ m → r ≡ asked n l
+by-name l e p = e ∙ sym (ap (λ n. asked n l) p)
 
 pub asked-spec : {M : Type 1} → statement M
 asked-spec =
-    tie.close (tie.spec operation-at-requires returns keeping-at-requires returns-2 returns-3)
+    tie.close
+    (tie.spec
+    (λ c. search needs)
+    (λ c κs. search needs)
+    (λ c. search needs)
+    (λ c κs. search needs)
+    (λ c. search needs)
+    (λ c κs. search needs)
+    (λ c. search needs)
+    (λ c κs. search needs)
+    (λ c. search needs)
+    (λ c κs. search needs)
+    (λ c. search needs)
+    (λ c κs. search needs)
+    (λ c. search needs)
+    (λ c κs. search needs)
+    (λ c. search needs)
+    (λ c κs. search needs)
+    (λ c. search needs)
+    (λ c κs. search needs)
+    (λ c. search needs)
+    (λ c κs. search needs)
+    (λ c. search needs)
+    (λ c κs. search needs)
+    (λ c. search needs)
+    (λ c κs. search needs)
+    (λ c. search needs)
+    (λ c κs. search needs)
+    (λ c. search needs)
+    (λ c κs. search needs)
+    (λ c. search needs)
+    (λ c. by-name _ (c .publish .ensures) (c .before .enum-told .given .1))
+    (λ c. by-name _ (c .move-zero .ensures) (c .before .enum-told2 .given .1))
+    (λ c. by-name _ (c .read .ensures) (c .before .enum-told3 .given .1))
+    (λ c. by-name _ (c .floats .ensures) (c .before .enum-told4 .given .1))
+    (λ c. by-name _ (c .microradians .ensures) (c .before .enum-told5 .given .1))
+    (λ c. by-name _ (c .publish2 .ensures) (c .before .enum-told6 .given .1))
+    (λ c. by-name _ (c .move-zero2 .ensures) (c .before .enum-told7 .given .1))
+    (λ c. by-name _ (c .gtm-read .ensures) (c .before .enum-told8 .given .1))
+    (λ c. by-name _ (c .length .ensures) (c .before .enum-told9 .given .1))
+    (λ c. by-name _ (c .set .ensures) (c .before .enum-told10 .given .1))
+    (λ c. by-name _ (c .fill .ensures) (c .before .enum-told11 .given .1))
+    (λ c. by-name _ (c .copy .ensures) (c .before .enum-told12 .given .1))
+    (λ c. by-name _ (c .show .ensures) (c .before .enum-told13 .given .1))
+    (λ c. by-name _ (c .sum .ensures) (c .before .enum-told14 .given .1))
+    (λ c. by-name _ refl (c .enum-told15 .given .1)))

@@ -29,16 +29,19 @@ by-tests line s t u e f g =
 -- a line that is no comment
 module _ (c : tie.After-fits2) where
   abbrev line : List ℕ
-  line = c .before .before .before .before .before .before .before .args .line .now
+  line = c .before .before .before .before .before .before .before .before .args .line .now
 
-  place : c .before .place-of .result ≡ placeOf line
-  place = c .before .place-of .ensures
+  place : c .before .before .place-of .result ≡ placeOf line
+  place = c .before .before .place-of .ensures
+
+  name : c .before .name-at .result ≡ nameAt (placeOf line)
+  name = c .before .name-at .ensures ∙ ap nameAt place
 
   by-fit : (u : Bool) → c .fits2 .result ≡ u → chosen line false false u ≡ command line
   by-fit u e =
       by-tests line false false u
-      (sym (c .before .before .before .before .if1 .left) ∙ ap not (c .before .before .before .before .before .has-word .ensures))
-      (sym (c .before .before .if2 .left) ∙ c .before .before .before .is-comment .ensures)
+      (sym (c .before .before .before .before .before .if1 .left) ∙ ap not (c .before .before .before .before .before .before .has-word .ensures))
+      (sym (c .before .before .before .if2 .left) ∙ c .before .before .before .before .is-comment .ensures)
       (sym e ∙ c .fits2 .ensures ∙ ap (fits line) place)
 
 has-word-requires : tie.Need-has-word-requires
@@ -64,6 +67,9 @@ returns-2 c =
 place-of-requires : tie.Need-place-of-requires
 place-of-requires c κs = search needs
 
+name-at-requires : tie.Need-name-at-requires
+name-at-requires c κs = search needs
+
 fits-requires : tie.Need-fits-requires
 fits-requires c κs = search needs
 
@@ -73,15 +79,10 @@ asked-requires c κs = search needs
 returns-3 : tie.Need-returns-3
 returns-3 c =
     let d = c .before .before in
-    c .asked .ensures ∙ ap (λ p. asked (nameAt p) (line d)) (place d) ∙ by-fit d true (c .before .if3 .taken)
-
-name-at-requires : tie.Need-name-at-requires
-name-at-requires c κs = search needs
+    c .asked .ensures ∙ ap (λ n. asked n (line d)) (name d) ∙ by-fit d true (c .before .if3 .taken)
 
 returns-4 : tie.Need-returns-4
-returns-4 c =
-    let d = c .before .before in
-    ap C.Misused (c .name-at .ensures ∙ ap nameAt (place d)) ∙ by-fit d false (c .before .if3 .left)
+returns-4 c = let d = c .before in ap C.Misused (name d) ∙ by-fit d false (c .if3 .left)
 
 pub command-of-spec : {M : Type 1} → statement M
 command-of-spec =
@@ -92,8 +93,8 @@ command-of-spec =
     is-comment-requires
     returns-2
     place-of-requires
+    name-at-requires
     fits-requires
     asked-requires
     returns-3
-    name-at-requires
     returns-4)

@@ -8,7 +8,7 @@ use native.Mathlib.Omega.{arith}
 use borrow.Author.Needs.{needs}
 use lib.ListN.{drop}
 use Rattle.words.specs.Words.{words, wordAt}
-use Rattle.commands.specs.Commands.{place}
+use Rattle.commands.specs.Commands.{nameCount, place}
 use Rattle.commands.proofs.Fitting.{place-more, place-end}
 use Rattle.commands.proofs.place_in.Statement.{statement}
 use Rattle.commands.proofs.place_in.Tie as tie
@@ -17,7 +17,7 @@ abbrev Inv-loop : tie.InvT-loop
 Inv-loop line names k₀ k = k + place (wordAt line 0) (drop k (words names)) ≡ place (wordAt line 0) (words names)
 
 abbrev μ-loop : tie.MeasureT-loop
-μ-loop line names k₀ k = 11 - k
+μ-loop line names k₀ k = nameCount - k
 
 loop-holds : tie.Need-loop-holds Inv-loop μ-loop
 loop-holds c = omega arith

@@ -1,4 +1,4 @@
--- `commands::place_of` meets its contract: the bytes of the code are the text, and it has eleven words. Assumes nothing.
+-- `commands::place_of` meets its contract: the bytes of the code are the text, and it has as many words as there are names. Assumes nothing.
 use mathlib.Core.Path.{refl}
 use Rattle.words.specs.Words.{words}
 use Rattle.commands.specs.Commands.{names}
