@@ -161,7 +161,7 @@ fn kind_of(byte: u8) -> Kind
 
 // Whether the words behind the first are as many as the kinds, and each is a number of its kind.
 fn fit(line: &[u8], kinds: &[u8], mut at: usize, end: usize) -> bool
-    requires { ⌜ (end ≤ length (now kinds)) × (end ≤ 64) ⌝ }
+    requires { ⌜ end ≤ length (now kinds) ⌝ }
     ensures { λ r. ⌜ r ≡ fit (drop 1 (words (now (line .entry)))) (slice at end (now (kinds .entry))) ⌝ }
 {
     let mut k: usize = 1;
@@ -176,7 +176,6 @@ fn fit(line: &[u8], kinds: &[u8], mut at: usize, end: usize) -> bool
 }
 
 fn fits_in(line: &[u8], kinds: &[u8], place: usize) -> bool
-    requires { ⌜ length (now kinds) ≤ 64 ⌝ }
     ensures { λ r. ⌜ r ≡ fit (drop 1 (words (now (line .entry)))) (wordAt (now (kinds .entry)) place) ⌝ }
 {
     let word = word_at(kinds, place);

@@ -19,13 +19,13 @@ use Rattle.commands.proofs.fit.Tie as tie
 
 abbrev Inv-loop : tie.InvT-loop
 Inv-loop line kinds at₀ end k₀ at k =
-    (k ≤ at + 1) × (k ≤ 65) × (fit (drop k (words line)) (slice at end kinds) ≡ fit (drop 1 (words line)) (slice at₀ end kinds))
+    (k ≤ at + 1) × (fit (drop k (words line)) (slice at end kinds) ≡ fit (drop 1 (words line)) (slice at₀ end kinds))
 
 abbrev μ-loop : tie.MeasureT-loop
 μ-loop line kinds at₀ end k₀ at k = end - at
 
 loop-holds : tie.Need-loop-holds Inv-loop μ-loop
-loop-holds c = (omega arith, omega arith, refl)
+loop-holds c = (omega arith, refl)
 
 shared-slice-read-kind-of : tie.Need-shared-slice-read-kind-of Inv-loop μ-loop
 shared-slice-read-kind-of c = search needs
@@ -53,13 +53,13 @@ module _ (c : tie.After-is-number Inv-loop μ-loop) where
   next : (t : Bool) → c .is-number .result ≡ t → t && fit (drop (at .loop .k + 1) (words line)) bs ≡ fit (drop 1 (words line)) (slice (start .args .at) (start .args .end) (start .args .kinds .now))
   next t e =
       let b = getD (start .args .kinds .now) (at .loop .at) 0 in
-      let some = slice-cons (at .loop .at) (start .args .end) (start .args .kinds .now) 0 (c .before .before .before .loop-test .taken) (start .pre .0)
+      let some = slice-cons (at .loop .at) (start .args .end) (start .args .kinds .now) 0 (c .before .before .before .loop-test .taken) (start .pre)
       ∙ ap (λ n. b ∷ slice n (start .args .end) (start .args .kinds .now)) (sym (add-one (at .loop .at))) in
       let said = sym e ∙ c .is-number .ensures ∙ ap (isNumber line (at .loop .k)) (c .before .kind-of .ensures) in
       ap (λ t. t && fit (drop (at .loop .k + 1) (words line)) bs) said
       ∙ sym (fit-more (words line) (at .loop .k) b bs)
       ∙ sym (ap (fit (drop (at .loop .k) (words line))) some)
-      ∙ at .loop .inv .2
+      ∙ at .loop .inv .1
 
 returns : tie.Need-returns Inv-loop μ-loop
 returns c = let d = c .before in next d false (not-true (d .is-number .result) (c .if1 .taken))
@@ -76,7 +76,7 @@ loop-less c = search needs
 loop-again : tie.Need-loop-again Inv-loop μ-loop
 loop-again c =
     let d = c .before in
-    (omega arith, omega arith, next d true (not-false (d .is-number .result) (c .if1 .left)))
+    (omega arith, next d true (not-false (d .is-number .result) (c .if1 .left)))
 
 has-word-requires : tie.Need-has-word-requires Inv-loop μ-loop
 has-word-requires c κs = search needs
@@ -87,11 +87,11 @@ returns-2 c =
     let s = l .before .before .before in
     let ws = words (s .args .line .now) in
     let kinds = s .args .kinds .now in
-    let none = drop-of-length-le (take (s .args .end) kinds) {i = l .loop .at} (omega (arith, length-take-le (s .args .end) kinds (s .pre .0), c .before .loop-test .left)) in
+    let none = drop-of-length-le (take (s .args .end) kinds) {i = l .loop .at} (omega (arith, length-take-le (s .args .end) kinds (s .pre), c .before .loop-test .left)) in
     ap not (c .has-word .ensures)
     ∙ sym (fit-end ws (l .loop .k))
     ∙ sym (ap (fit (drop (l .loop .k) ws)) none)
-    ∙ l .loop .inv .2
+    ∙ l .loop .inv .1
 
 pub fit-spec : {M : Type 1} → statement M
 fit-spec =
