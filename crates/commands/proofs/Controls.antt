@@ -8,6 +8,7 @@ use Rattle.words.specs.Text.{text}
 use Rattle.layout.specs.declared.Model.the-variants.{Cumulus, Gtm}
 use Rattle.commands.specs.Commands.{names, kinds, command}
 use Rattle.commands.specs.declared.Name.the-variants as N
+use Rattle.commands.specs.declared.State.the-variants as S
 use Rattle.commands.specs.declared.Operation.the-variants as O
 use Rattle.commands.specs.declared.Keeping.the-variants as K
 use Rattle.commands.specs.declared.Command.the-variants as C
@@ -20,7 +21,7 @@ silent = refl
 operations : map command (map text ("publish 9" ∷ " move 0  4 -250 1 " ∷ "read 1 6 -1 2 -3 4 5" ∷ "floats 1 0 3ff0000000000000 2 3 a" ∷ "microradians 6 -150000 2 -3 4 5" ∷ []))
     ≡ C.Operation (O.Publish Cumulus 9)
     ∷ C.Operation (O.Move Cumulus 0 4 (negsuc 249) 1)
-    ∷ C.Operation (O.Read 1 6 (negsuc 0) (pos 2) (negsuc 2) (pos 4) (pos 5))
+    ∷ C.Operation (O.Read 1 6 (S.Cumulus (negsuc 0) (pos 2) (negsuc 2) (pos 4) (pos 5)))
     ∷ C.Operation (O.Floats 1 0 4607182418800017408 2 3 10)
     ∷ C.Operation (O.Microradians 6 (negsuc 149999) (pos 2) (negsuc 2) (pos 4) (pos 5))
     ∷ []
@@ -30,7 +31,7 @@ operations = refl
 gtm-operations : map command (map text ("gtm_publish 3" ∷ "gtm_move 3 1 -250 4" ∷ "gtm_read 4 3 -150 400" ∷ []))
     ≡ C.Operation (O.Publish Gtm 3)
     ∷ C.Operation (O.Move Gtm 3 1 (negsuc 249) 4)
-    ∷ C.Operation (O.GtmRead 4 3 (negsuc 149) (pos 400))
+    ∷ C.Operation (O.Read 4 3 (S.Gtm (negsuc 149) (pos 400)))
     ∷ []
 unfolding words names kinds magnitude
 gtm-operations = refl

@@ -13,6 +13,8 @@ use Rattle.layout.specs.declared.Model.{Model}
 use Rattle.layout.specs.declared.Model.the-variants.{Cumulus, Gtm}
 use Rattle.commands.specs.declared.Name.{Name}
 use Rattle.commands.specs.declared.Name.the-variants as N
+use Rattle.commands.specs.declared.State.{State}
+use Rattle.commands.specs.declared.State.the-variants as S
 use Rattle.commands.specs.declared.Operation.{Operation}
 use Rattle.commands.specs.declared.Operation.the-variants as O
 use Rattle.commands.specs.declared.Keeping.{Keeping}
@@ -73,18 +75,26 @@ publish m l = C.Operation (O.Publish m (naturalAt l 1))
 abbrev pub moveZero : Model → List ℕ → Command
 moveZero m l = C.Operation (O.Move m (naturalAt l 1) (naturalAt l 2) (signedAt l 3) (naturalAt l 4))
 
+abbrev pub read : State → List ℕ → Command
+read s l = C.Operation (O.Read (naturalAt l 1) (naturalAt l 2) s)
+
+abbrev pub cumulusState : List ℕ → State
+cumulusState l = S.Cumulus (signedAt l 3) (signedAt l 4) (signedAt l 5) (signedAt l 6) (signedAt l 7)
+
+abbrev pub gtmState : List ℕ → State
+gtmState l = S.Gtm (signedAt l 3) (signedAt l 4)
+
 abbrev pub asked : Name → List ℕ → Command
 asked N.Publish l = publish Cumulus l
 asked N.Move l = moveZero Cumulus l
-asked N.Read l =
-    C.Operation (O.Read (naturalAt l 1) (naturalAt l 2) (signedAt l 3) (signedAt l 4) (signedAt l 5) (signedAt l 6) (signedAt l 7))
+asked N.Read l = read (cumulusState l) l
 asked N.Floats l =
     C.Operation (O.Floats (naturalAt l 1) (bitsAt l 2) (bitsAt l 3) (bitsAt l 4) (bitsAt l 5) (bitsAt l 6))
 asked N.Microradians l =
     C.Operation (O.Microradians (naturalAt l 1) (signedAt l 2) (signedAt l 3) (signedAt l 4) (signedAt l 5) (signedAt l 6))
 asked N.GtmPublish l = publish Gtm l
 asked N.GtmMove l = moveZero Gtm l
-asked N.GtmRead l = C.Operation (O.GtmRead (naturalAt l 1) (naturalAt l 2) (signedAt l 3) (signedAt l 4))
+asked N.GtmRead l = read (gtmState l) l
 asked N.Length l = C.Keeping (K.Length (naturalAt l 1) (naturalAt l 2))
 asked N.Set l = C.Keeping (K.Set (naturalAt l 1) (naturalAt l 2) (signedAt l 3))
 asked N.Fill l =

@@ -4,7 +4,7 @@ ghost use Prim.Native.Nat.{_≤_, _<_};
 ghost use lib.ListN.{length, drop};
 ghost use lib.Seq.{slice};
 ghost use Rattle.words.specs.Words.{words, wordAt};
-ghost use Rattle.commands.specs.Commands.{nameCount, place, placeOf, nameAt, kindOf, fit, fits, publish, moveZero, asked, startsWith, command};
+ghost use Rattle.commands.specs.Commands.{nameCount, place, placeOf, nameAt, kindOf, fit, fits, publish, moveZero, read, cumulusState, gtmState, asked, startsWith, command};
 use layout::Model;
 use numbers::Kind;
 use numbers::bits_at;
@@ -34,6 +34,21 @@ pub enum Name {
     Other,
 }
 
+// A reading of each variable of a model.
+pub enum State {
+    Cumulus {
+        alpha: i64,
+        beta: i64,
+        xi: i64,
+        eta: i64,
+        zeta: i64,
+    },
+    Gtm {
+        alpha: i64,
+        eta: i64,
+    },
+}
+
 // What is asked of the library.
 pub enum Operation {
     Publish {
@@ -50,11 +65,7 @@ pub enum Operation {
     Read {
         space: u64,
         room: u64,
-        alpha: i64,
-        beta: i64,
-        xi: i64,
-        eta: i64,
-        zeta: i64,
+        state: State,
     },
     Floats {
         space: u64,
@@ -71,12 +82,6 @@ pub enum Operation {
         xi: i64,
         eta: i64,
         zeta: i64,
-    },
-    GtmRead {
-        space: u64,
-        room: u64,
-        alpha: i64,
-        eta: i64,
     },
 }
 
@@ -240,19 +245,36 @@ fn move_zero(line: &[u8], model: Model) -> Command
     }
 }
 
-fn read(line: &[u8]) -> Command
-    ensures { λ r. ⌜ r ≡ asked Name.Read (now (line .entry)) ⌝ }
+fn read(line: &[u8], state: State) -> Command
+    ensures { λ r. ⌜ r ≡ read state (now (line .entry)) ⌝ }
 {
     Command::Operation {
         operation: Operation::Read {
             space: natural_at(line, 1),
             room: natural_at(line, 2),
-            alpha: signed_at(line, 3),
-            beta: signed_at(line, 4),
-            xi: signed_at(line, 5),
-            eta: signed_at(line, 6),
-            zeta: signed_at(line, 7),
+            state: state,
         },
+    }
+}
+
+fn cumulus_state(line: &[u8]) -> State
+    ensures { λ r. ⌜ r ≡ cumulusState (now (line .entry)) ⌝ }
+{
+    State::Cumulus {
+        alpha: signed_at(line, 3),
+        beta: signed_at(line, 4),
+        xi: signed_at(line, 5),
+        eta: signed_at(line, 6),
+        zeta: signed_at(line, 7),
+    }
+}
+
+fn gtm_state(line: &[u8]) -> State
+    ensures { λ r. ⌜ r ≡ gtmState (now (line .entry)) ⌝ }
+{
+    State::Gtm {
+        alpha: signed_at(line, 3),
+        eta: signed_at(line, 4),
     }
 }
 
@@ -282,19 +304,6 @@ fn microradians(line: &[u8]) -> Command
             xi: signed_at(line, 4),
             eta: signed_at(line, 5),
             zeta: signed_at(line, 6),
-        },
-    }
-}
-
-fn gtm_read(line: &[u8]) -> Command
-    ensures { λ r. ⌜ r ≡ asked Name.GtmRead (now (line .entry)) ⌝ }
-{
-    Command::Operation {
-        operation: Operation::GtmRead {
-            space: natural_at(line, 1),
-            room: natural_at(line, 2),
-            alpha: signed_at(line, 3),
-            eta: signed_at(line, 4),
         },
     }
 }
@@ -376,12 +385,12 @@ fn asked(line: &[u8], name: Name) -> Command
     match name {
         Name::Publish => publish(line, Model::Cumulus),
         Name::Move => move_zero(line, Model::Cumulus),
-        Name::Read => read(line),
+        Name::Read => read(line, cumulus_state(line)),
         Name::Floats => floats(line),
         Name::Microradians => microradians(line),
         Name::GtmPublish => publish(line, Model::Gtm),
         Name::GtmMove => move_zero(line, Model::Gtm),
-        Name::GtmRead => gtm_read(line),
+        Name::GtmRead => read(line, gtm_state(line)),
         Name::Length => length(line),
         Name::Set => set(line),
         Name::Fill => fill(line),
