@@ -1,28 +1,35 @@
 // The operations of the library. Each is lent a room of its own, and a space changes only with a 0.
+mod floats;
+mod lent;
+mod models;
+
 ghost use Prim.Native.Nat.{_≤_};
 ghost use lib.ListN.{length as size};
-ghost use Rattle.spaces.specs.Sizes.{allSpaces, margin, spaceRoom};
-use super::drawing::checksum;
-use super::floats::floats_of;
-use super::floats::put_answer;
-use super::lent::LENT;
-use super::lent::MARGIN;
-use super::lent::fresh;
-use super::lent::put_refused;
-use super::lent::put_sides;
-use super::lent::store;
-use super::reasons::no_room;
-use super::reasons::no_space;
-use super::rooms::ALL;
-use super::rooms::ROOM;
-use super::rooms::SPACES;
-use super::rooms::larger;
-use super::rooms::length_of;
-use super::rooms::start_of;
+ghost use Rattle.spaces.specs.Sizes.{allSpaces, spaceRoom};
+ghost use Rattle.operations.specs.Margin.{margin};
 use commands::Operation;
+use commands::State;
 use door::Answer;
+use floats::floats_of;
+use floats::put_answer;
+use layout::Model;
 use layout::cumulus_one::VARIABLES;
 use layout::refusals::DONE;
+use lent::LENT;
+use lent::MARGIN;
+use lent::fresh;
+use lent::put_refused;
+use lent::put_sides;
+use lent::store;
+use spaces::drawing::checksum;
+use spaces::reasons::no_room;
+use spaces::reasons::no_space;
+use spaces::rooms::ALL;
+use spaces::rooms::ROOM;
+use spaces::rooms::SPACES;
+use spaces::rooms::larger;
+use spaces::rooms::length_of;
+use spaces::rooms::start_of;
 use texts::OUT;
 use texts::put_named;
 use texts::put_numbers;
@@ -40,7 +47,7 @@ fn put_table(number: u64, lent: &[i64; LENT], end: usize, out: &mut [u8; OUT], a
     put_named(b" sum ", sum, out, next)
 }
 
-// What it says of six values that were to be written there.
+// What it says of values that were to be written there.
 fn put_values(
     number: u64,
     lent: &[i64; LENT],
@@ -78,21 +85,28 @@ fn settle(
     put_sides(lent, end, out, next)
 }
 
-fn published(lent: &mut [i64], end: usize) -> u64
+fn published(model: Model, lent: &mut [i64], end: usize) -> u64
     requires { ⌜ (margin ≤ end) × (end ≤ size (now lent)) ⌝ }
 {
     let from = MARGIN;
-    cumulus::publish(&mut lent[from..end])
+    models::publish(model, &mut lent[from..end])
 }
 
-fn publish(into: u64, spaces: &mut [i64; ALL], out: &mut [u8; OUT], at: usize) -> usize {
+fn publish(
+    model: Model,
+    into: u64,
+    spaces: &mut [i64; ALL],
+    out: &mut [u8; OUT],
+    at: usize,
+) -> usize {
     let mut lent = fresh();
     let end = MARGIN + length_of(into, spaces);
-    let number = published(&mut lent, end);
+    let number = published(model, &mut lent, end);
     settle(number, &lent, end, into, spaces, out, at)
 }
 
 fn moved(
+    model: Model,
     space: u64,
     length: usize,
     variable: u64,
@@ -108,7 +122,8 @@ fn moved(
     let first = start_of(space);
     let last = first + length;
     let from = MARGIN;
-    cumulus::move_datum(
+    models::move_datum(
+        model,
         &spaces[first..last],
         variable as usize,
         shift,
@@ -117,6 +132,7 @@ fn moved(
 }
 
 fn move_zero(
+    model: Model,
     space: u64,
     variable: u64,
     shift: i64,
@@ -128,14 +144,23 @@ fn move_zero(
     let mut lent = fresh();
     let end = MARGIN + length_of(into, spaces);
     let length = length_of(space, spaces);
-    let number = moved(space, length, variable, shift, spaces, &mut lent, end);
+    let number = moved(
+        model,
+        space,
+        length,
+        variable,
+        shift,
+        spaces,
+        &mut lent,
+        end,
+    );
     settle(number, &lent, end, into, spaces, out, at)
 }
 
 fn values(
     space: u64,
     length: usize,
-    readings: [i64; VARIABLES],
+    state: State,
     spaces: &[i64],
     lent: &mut [i64],
     end: usize,
@@ -147,13 +172,13 @@ fn values(
     let first = start_of(space);
     let last = first + length;
     let from = MARGIN;
-    cumulus::read(&spaces[first..last], readings, &mut lent[from..end])
+    models::read(&spaces[first..last], state, &mut lent[from..end])
 }
 
 fn read(
     space: u64,
     room: u64,
-    readings: [i64; VARIABLES],
+    state: State,
     spaces: &[i64; ALL],
     out: &mut [u8; OUT],
     at: usize,
@@ -166,7 +191,7 @@ fn read(
     let number = values(
         space,
         length_of(space, spaces),
-        readings,
+        state,
         spaces,
         &mut lent,
         end,
@@ -205,7 +230,7 @@ fn float_answer(space: u64, length: usize, readings: [f64; VARIABLES], spaces: &
     door::read_floats(&spaces[first..last], readings)
 }
 
-fn floats(
+fn read_floats(
     space: u64,
     readings: [u64; VARIABLES],
     spaces: &[i64; ALL],
@@ -222,7 +247,7 @@ fn floats(
 // The space of an operation, and of two the larger one; the first where it takes none.
 fn last_space(operation: Operation) -> u64 {
     match operation {
-        Operation::Publish { into } => into,
+        Operation::Publish { into, .. } => into,
         Operation::Move { space, into, .. } => larger(space, into),
         Operation::Read { space, .. } => space,
         Operation::Floats { space, .. } => space,
@@ -232,22 +257,15 @@ fn last_space(operation: Operation) -> u64 {
 
 fn work(operation: Operation, spaces: &mut [i64; ALL], out: &mut [u8; OUT], at: usize) -> usize {
     match operation {
-        Operation::Publish { into } => publish(into, spaces, out, at),
+        Operation::Publish { model, into } => publish(model, into, spaces, out, at),
         Operation::Move {
+            model,
             space,
             variable,
             shift,
             into,
-        } => move_zero(space, variable, shift, into, spaces, out, at),
-        Operation::Read {
-            space,
-            room,
-            alpha,
-            beta,
-            xi,
-            eta,
-            zeta,
-        } => { read(space, room, [alpha, beta, xi, eta, zeta], spaces, out, at) }
+        } => move_zero(model, space, variable, shift, into, spaces, out, at),
+        Operation::Read { space, room, state } => read(space, room, state, spaces, out, at),
         Operation::Floats {
             space,
             alpha,
@@ -255,7 +273,7 @@ fn work(operation: Operation, spaces: &mut [i64; ALL], out: &mut [u8; OUT], at: 
             xi,
             eta,
             zeta,
-        } => { floats(space, [alpha, beta, xi, eta, zeta], spaces, out, at) }
+        } => { read_floats(space, [alpha, beta, xi, eta, zeta], spaces, out, at) }
         Operation::Microradians {
             room,
             alpha,

@@ -1,7 +1,7 @@
 // The room that an operation is lent: filled with a pattern, with more of it on both sides.
-use super::rooms::ALL;
-use super::rooms::ROOM;
-use super::rooms::start_of;
+use spaces::rooms::ALL;
+use spaces::rooms::ROOM;
+use spaces::rooms::start_of;
 use texts::OUT;
 use texts::least;
 use texts::put_natural;
