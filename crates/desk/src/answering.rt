@@ -7,7 +7,6 @@ use commands::Command;
 use commands::command_of;
 use operations::operate;
 use spaces::keeping::keep;
-use spaces::reasons::no_line;
 use spaces::rooms::ALL;
 use spaces::rooms::ROOM;
 use texts::LINE;
@@ -37,7 +36,7 @@ fn answered(
     at: usize,
 ) -> usize {
     if held > line.len() {
-        return no_line(out, at);
+        return put_text(b"? a line has at most 256 bytes", out, at);
     }
     let from = 0;
     obey(&line[from..held], spaces, out, at)

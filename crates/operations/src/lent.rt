@@ -30,7 +30,22 @@ fn is_untouched(lent: &[i64; LENT], from: usize, end: usize) -> bool {
     true
 }
 
-// What a refusal left of a room that ends at a place.
+fn put_touched(lent: &[i64; LENT], end: usize, out: &mut [u8; OUT], at: usize) -> usize {
+    if is_untouched(lent, MARGIN, end) {
+        return put_text(b" untouched", out, at);
+    }
+    put_text(b" touched", out, at)
+}
+
+// Says where one of the sides of a room that ends at a place has changed.
+pub fn put_sides(lent: &[i64; LENT], end: usize, out: &mut [u8; OUT], at: usize) -> usize {
+    if is_untouched(lent, 0, MARGIN) & is_untouched(lent, end, LENT) {
+        return at;
+    }
+    put_text(b" outside", out, at)
+}
+
+// What a refusal left of the room.
 pub fn put_refused(
     number: u64,
     lent: &[i64; LENT],
@@ -38,19 +53,9 @@ pub fn put_refused(
     out: &mut [u8; OUT],
     at: usize,
 ) -> usize {
-    let next = put_natural(number, out, at);
-    if is_untouched(lent, MARGIN, end) {
-        return put_text(b" untouched", out, next);
-    }
-    put_text(b" touched", out, next)
-}
-
-// Says where one of its sides has changed.
-pub fn put_sides(lent: &[i64; LENT], end: usize, out: &mut [u8; OUT], at: usize) -> usize {
-    if is_untouched(lent, 0, MARGIN) & is_untouched(lent, end, LENT) {
-        return at;
-    }
-    put_text(b" outside", out, at)
+    let refused = put_natural(number, out, at);
+    let next = put_touched(lent, end, out, refused);
+    put_sides(lent, end, out, next)
 }
 
 // Takes what was written over into a space.

@@ -3,13 +3,8 @@ mod floats;
 mod lent;
 mod models;
 
-ghost use Prim.Native.Nat.{_≤_};
-ghost use lib.ListN.{length as size};
-ghost use Rattle.spaces.specs.Sizes.{allSpaces, spaceRoom};
-ghost use Rattle.operations.specs.Margin.{margin};
 use commands::Operation;
 use commands::State;
-use door::Answer;
 use floats::floats_of;
 use floats::put_answer;
 use layout::Model;
@@ -29,67 +24,41 @@ use spaces::rooms::ROOM;
 use spaces::rooms::SPACES;
 use spaces::rooms::larger;
 use spaces::rooms::length_of;
-use spaces::rooms::start_of;
+use spaces::rooms::numbers_of;
 use texts::OUT;
 use texts::put_named;
 use texts::put_numbers;
 use texts::put_text;
 
-// What a lent room that ends at a place says of a table that was to be written there.
-fn put_table(number: u64, lent: &[i64; LENT], end: usize, out: &mut [u8; OUT], at: usize) -> usize
-    requires { ⌜ margin ≤ end ⌝ }
-{
-    if number != DONE {
-        return put_refused(number, lent, end, out, at);
-    }
-    let sum = checksum(lent, MARGIN, end);
-    let next = put_named(b"0 wrote ", (end - MARGIN) as u64, out, at);
-    put_named(b" sum ", sum, out, next)
-}
-
-// What it says of values that were to be written there.
-fn put_values(
-    number: u64,
-    lent: &[i64; LENT],
-    end: usize,
-    out: &mut [u8; OUT],
-    at: usize,
-) -> usize {
-    if number != DONE {
-        return put_refused(number, lent, end, out, at);
-    }
-    let next = put_text(b"0 ", out, at);
-    put_numbers(lent, MARGIN, end, out, next)
-}
-
-fn put_read(number: u64, lent: &[i64; LENT], end: usize, out: &mut [u8; OUT], at: usize) -> usize {
-    let next = put_values(number, lent, end, out, at);
-    put_sides(lent, end, out, next)
-}
-
+// Takes a written table over into its space, and says what was written.
 fn settle(
     number: u64,
     lent: &[i64; LENT],
-    end: usize,
     into: u64,
     spaces: &mut [i64; ALL],
     out: &mut [u8; OUT],
     at: usize,
-) -> usize
-    requires { ⌜ margin ≤ end ⌝ }
-{
-    if number == DONE {
-        store(lent, into, spaces);
+) -> usize {
+    let count = length_of(into, spaces);
+    let end = MARGIN + count;
+    if number != DONE {
+        return put_refused(number, lent, end, out, at);
     }
-    let next = put_table(number, lent, end, out, at);
+    store(lent, into, spaces);
+    let wrote = put_named(b"0 wrote ", count as u64, out, at);
+    let sum = checksum(lent, MARGIN, end);
+    let next = put_named(b" sum ", sum, out, wrote);
     put_sides(lent, end, out, next)
 }
 
-fn published(model: Model, lent: &mut [i64], end: usize) -> u64
-    requires { ⌜ (margin ≤ end) × (end ≤ size (now lent)) ⌝ }
-{
-    let from = MARGIN;
-    models::publish(model, &mut lent[from..end])
+// Says which values were read.
+fn put_read(number: u64, lent: &[i64; LENT], end: usize, out: &mut [u8; OUT], at: usize) -> usize {
+    if number != DONE {
+        return put_refused(number, lent, end, out, at);
+    }
+    let done = put_text(b"0 ", out, at);
+    let next = put_numbers(lent, MARGIN, end, out, done);
+    put_sides(lent, end, out, next)
 }
 
 fn publish(
@@ -100,35 +69,10 @@ fn publish(
     at: usize,
 ) -> usize {
     let mut lent = fresh();
-    let end = MARGIN + length_of(into, spaces);
-    let number = published(model, &mut lent, end);
-    settle(number, &lent, end, into, spaces, out, at)
-}
-
-fn moved(
-    model: Model,
-    space: u64,
-    length: usize,
-    variable: u64,
-    shift: i64,
-    spaces: &[i64],
-    lent: &mut [i64],
-    end: usize,
-) -> u64
-    requires { ⌜ length ≤ spaceRoom ⌝ }
-    requires { ⌜ allSpaces ≤ size (now spaces) ⌝ }
-    requires { ⌜ (margin ≤ end) × (end ≤ size (now lent)) ⌝ }
-{
-    let first = start_of(space);
-    let last = first + length;
     let from = MARGIN;
-    models::move_datum(
-        model,
-        &spaces[first..last],
-        variable as usize,
-        shift,
-        &mut lent[from..end],
-    )
+    let end = from + length_of(into, spaces);
+    let number = models::publish(model, &mut lent[from..end]);
+    settle(number, &lent, into, spaces, out, at)
 }
 
 fn move_zero(
@@ -142,37 +86,11 @@ fn move_zero(
     at: usize,
 ) -> usize {
     let mut lent = fresh();
-    let end = MARGIN + length_of(into, spaces);
-    let length = length_of(space, spaces);
-    let number = moved(
-        model,
-        space,
-        length,
-        variable,
-        shift,
-        spaces,
-        &mut lent,
-        end,
-    );
-    settle(number, &lent, end, into, spaces, out, at)
-}
-
-fn values(
-    space: u64,
-    length: usize,
-    state: State,
-    spaces: &[i64],
-    lent: &mut [i64],
-    end: usize,
-) -> u64
-    requires { ⌜ length ≤ spaceRoom ⌝ }
-    requires { ⌜ allSpaces ≤ size (now spaces) ⌝ }
-    requires { ⌜ (margin ≤ end) × (end ≤ size (now lent)) ⌝ }
-{
-    let first = start_of(space);
-    let last = first + length;
     let from = MARGIN;
-    models::read(&spaces[first..last], state, &mut lent[from..end])
+    let end = from + length_of(into, spaces);
+    let table = numbers_of(space, spaces);
+    let number = models::move_datum(model, table, variable as usize, shift, &mut lent[from..end]);
+    settle(number, &lent, into, spaces, out, at)
 }
 
 fn read(
@@ -186,24 +104,12 @@ fn read(
     if room > ROOM as u64 {
         return no_room(out, at);
     }
-    let end = MARGIN + room as usize;
     let mut lent = fresh();
-    let number = values(
-        space,
-        length_of(space, spaces),
-        state,
-        spaces,
-        &mut lent,
-        end,
-    );
-    put_read(number, &lent, end, out, at)
-}
-
-fn fine_values(readings: [i64; VARIABLES], lent: &mut [i64], end: usize) -> u64
-    requires { ⌜ (margin ≤ end) × (end ≤ size (now lent)) ⌝ }
-{
     let from = MARGIN;
-    microradians::read(readings, &mut lent[from..end])
+    let end = from + room as usize;
+    let table = numbers_of(space, spaces);
+    let number = models::read(table, state, &mut lent[from..end]);
+    put_read(number, &lent, end, out, at)
 }
 
 fn read_microradians(
@@ -215,19 +121,11 @@ fn read_microradians(
     if room > ROOM as u64 {
         return no_room(out, at);
     }
-    let end = MARGIN + room as usize;
     let mut lent = fresh();
-    let number = fine_values(readings, &mut lent, end);
+    let from = MARGIN;
+    let end = from + room as usize;
+    let number = microradians::read(readings, &mut lent[from..end]);
     put_read(number, &lent, end, out, at)
-}
-
-fn float_answer(space: u64, length: usize, readings: [f64; VARIABLES], spaces: &[i64]) -> Answer
-    requires { ⌜ length ≤ spaceRoom ⌝ }
-    requires { ⌜ allSpaces ≤ size (now spaces) ⌝ }
-{
-    let first = start_of(space);
-    let last = first + length;
-    door::read_floats(&spaces[first..last], readings)
 }
 
 fn read_floats(
@@ -237,11 +135,8 @@ fn read_floats(
     out: &mut [u8; OUT],
     at: usize,
 ) -> usize {
-    put_answer(
-        float_answer(space, length_of(space, spaces), floats_of(readings), spaces),
-        out,
-        at,
-    )
+    let answer = door::read_floats(numbers_of(space, spaces), floats_of(readings));
+    put_answer(answer, out, at)
 }
 
 // The space of an operation, and of two the larger one; the first where it takes none.

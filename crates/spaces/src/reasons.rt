@@ -1,4 +1,4 @@
-// Why a line is not understood.
+// Why a command is not obeyed.
 use texts::OUT;
 use texts::put_text;
 
@@ -12,8 +12,4 @@ pub fn no_room(out: &mut [u8; OUT], at: usize) -> usize {
 
 pub fn no_place(out: &mut [u8; OUT], at: usize) -> usize {
     put_text(b"? no such place", out, at)
-}
-
-pub fn no_line(out: &mut [u8; OUT], at: usize) -> usize {
-    put_text(b"? a line has at most 256 bytes", out, at)
 }

@@ -32,6 +32,13 @@ pub fn start_of(space: u64) -> usize
     place_of(space) + 1
 }
 
+pub fn numbers_of(space: u64, spaces: &[i64; ALL]) -> &[i64] {
+    let all = &spaces[..];
+    let first = start_of(space);
+    let last = first + length_of(space, spaces);
+    &all[first..last]
+}
+
 // Makes one space what another is.
 pub fn copy_space(space: u64, into: u64, spaces: &mut [i64; ALL]) {
     let from = place_of(space);
