@@ -220,6 +220,7 @@ fn name_at(place: usize) -> Name
     }
 }
 
+// What each name asks for, from the words behind it.
 fn publish(line: &[u8], model: Model) -> Command
     ensures { λ r. ⌜ r ≡ publish model (now (line .entry)) ⌝ }
 {

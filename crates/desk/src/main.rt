@@ -1,12 +1,8 @@
 // Answers each line of a script on standard input with a line on standard output.
-mod answering;
-mod uses;
-
-use answering::LONGEST;
-use answering::answer;
 use layout::cumulus_one::TABLE;
 use libc::STDIN_FILENO;
 use libc::STDOUT_FILENO;
+use scripts::LONGEST;
 use spaces::rooms::ALL;
 use spaces::rooms::SPACE;
 use texts::LINE;
@@ -50,7 +46,7 @@ fn take_byte(
     let free = with_room(out, told.at);
     Told {
         held: 0,
-        at: answer(line, told.held, spaces, out, free),
+        at: scripts::answer(line, told.held, spaces, out, free),
     }
 }
 
@@ -74,7 +70,7 @@ fn take_piece(
 // A last line without a newline.
 fn finish(line: &[u8; LINE], held: usize, spaces: &mut [i64; ALL], out: &mut [u8; OUT]) {
     if held > 0 {
-        let end = answer(line, held, spaces, out, 0);
+        let end = scripts::answer(line, held, spaces, out, 0);
         write_out(out, end);
     }
 }

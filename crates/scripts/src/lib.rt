@@ -1,8 +1,9 @@
 // What a line of a script does with the spaces. The bytes of an answer are compared with those that the second program works out;
 // proved are the command of a line, and that everything stays within its room.
+mod uses;
+
 ghost use Prim.Native.Nat.{_≤_};
 ghost use Rattle.texts.specs.Room.{answersRoom};
-use super::uses::put_use;
 use commands::Command;
 use commands::command_of;
 use operations::operate;
@@ -13,6 +14,7 @@ use texts::LINE;
 use texts::OUT;
 use texts::put_byte;
 use texts::put_text;
+use uses::put_use;
 
 // The most bytes of an answer: the numbers of a space, each with a minus, 19 digits and what parts it from the next.
 pub const LONGEST: usize = ROOM * 21;
