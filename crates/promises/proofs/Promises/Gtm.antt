@@ -6,18 +6,19 @@ use mathlib.Core.Bool.{true, false}
 use mathlib.Core.List.{List, map}
 use Prim.Native.Nat.{ℕ, _+_, _-_, _*_, _≤_, _<_}
 use native.Mathlib.Omega.{arith}
-use lib.IntN.{ℤ, pos, negℤ, natAbs, _+ℤ_}
+use lib.IntN.{ℤ, pos, negsuc, negℤ, natAbs, _+ℤ_}
 use lib.ListN.{length, getD, replicate}
 use Rattle.polynomials.specs.Order.{below}
 use Rattle.polynomials.specs.Groups.{less}
 use Rattle.layout.specs.declared.Model.the-variants.{Gtm}
 use Rattle.layout.specs.Shape.{WellFormed, limitsLength, kindsLength, blockLength, blockStart, tableLength, cumulus, gtm}
 use Rattle.layout.specs.Limits.{allInRange}
-use Rattle.layout.specs.Sound.{SoundTable}
+use Rattle.layout.specs.Sound.{light, SoundTable}
 use Rattle.layout.specs.Refusals.{done, wrongTable, wrongOutput, noVariable, limitPast, moveTooHeavy, outside}
 use Rattle.layout.specs.Publishing.{publishNumber, publishOutput}
 use Rattle.layout.specs.Reading.{inside, values, readNumber, readOutput}
 use Rattle.layout.specs.Moving.{movedLimits, moveLight, moveNumber, moveOutput}
+use Rattle.layout.specs.Accepted.{ReadAccepted, MoveAccepted}
 use Rattle.layout.proofs.Published.{fitting, other}
 use Rattle.printed.specs.Values.{scaleIn}
 use Rattle.printed.specs.Stored.{eachBelongs, Multiple, degreeAt}
@@ -28,8 +29,8 @@ use Rattle.gtm.proofs.Scaling.{published-multiples}
 use Rattle.gtm.proofs.Envelope.{sound-table, read-inside}
 use Rattle.gtm.proofs.Model.{own-variables, read-model}
 use Rattle.gtm.proofs.Moves.{move-accepted}
-use Rattle.promises.proofs.Promises.Tables.{every-model-is-well-formed, sound-answers-its-sum, first-outside-is-named, other-length-is-not-read}
-use Rattle.promises.proofs.Promises.Moves.{move-accepted-exactly, move-past-range-exactly, move-too-heavy-exactly, move-no-other-number, move-by-nothing, moved-stays-sound, moved-answers-as-before, moves-compose, moves-restore, moves-commute, other-length-is-not-moved, no-such-variable}
+use Rattle.promises.proofs.Promises.Tables.{every-model-is-well-formed, smallest-too-heavy, sound-answers-its-sum, only-sound-is-read, refused-read-writes-nothing, first-outside-is-named, other-length-is-not-read}
+use Rattle.promises.proofs.Promises.Moves.{refused-move-writes-nothing, only-sound-is-moved, move-accepted-exactly, move-past-range-exactly, move-too-heavy-exactly, move-no-other-number, move-by-nothing, moved-stays-sound, moved-answers-as-before, moves-compose, moves-restore, moves-commute, other-length-is-not-moved, no-such-variable}
 
 well : WellFormed gtm
 well = every-model-is-well-formed Gtm
@@ -90,6 +91,17 @@ module _ (t : List ℤ) (w : SoundTable gtm t) (x : ℕ → ℤ) (out : List ℤ
   pub gtm-first-outside-is-named : (i : ℕ) → i < gtm .variables → (readNumber gtm t x out ≡ outside gtm i) ↔ (((k : ℕ) → k < i → inside gtm t x k ≡ true) × (inside gtm t x i ≡ false))
   gtm-first-outside-is-named = first-outside-is-named gtm t x out well w room
 
+-- Nothing but a sound table is read, and a refusal writes nothing into the lent space.
+pub gtm-only-sound-is-read : (t : List ℤ) (x : ℕ → ℤ) (out : List ℤ) → readNumber gtm t x out ≡ done → ReadAccepted gtm t x out
+gtm-only-sound-is-read = only-sound-is-read gtm
+
+pub gtm-refused-read-writes-nothing : (t : List ℤ) (x : ℕ → ℤ) (out : List ℤ) → 0 < readNumber gtm t x out → readOutput gtm t x out ≡ out
+gtm-refused-read-writes-nothing = refused-read-writes-nothing gtm
+
+-- The smallest 64-bit number is too heavy in any place from 5 on.
+pub gtm-smallest-too-heavy : (t : List ℤ) (k : ℕ) → limitsLength gtm ≤ k → k < tableLength gtm → getD t k (pos 0) ≡ negsuc 9_223_372_036_854_775_807 → light gtm t ≡ false
+gtm-smallest-too-heavy = smallest-too-heavy Gtm
+
 -- ════ Moving any table
 module _ (t : List ℤ) (i : ℕ) (s : ℤ) (out : List ℤ) (w : SoundTable gtm t) (room : length out ≡ tableLength gtm) (known : i < gtm .variables) where
   -- A sound table's move, with room and in one of its variables, gives 0 exactly where every moved limit is in range and the weight rule is kept,
@@ -107,6 +119,13 @@ module _ (t : List ℤ) (i : ℕ) (s : ℤ) (out : List ℤ) (w : SoundTable gtm
   -- and no other number.
   pub gtm-move-no-other-number : (moveNumber gtm t i s out ≡ done) ⊎ ((moveNumber gtm t i s out ≡ limitPast) ⊎ (moveNumber gtm t i s out ≡ moveTooHeavy))
   gtm-move-no-other-number = move-no-other-number gtm t i s out w room known
+
+-- Nothing but a sound table is moved, and a refusal writes nothing into the lent space.
+pub gtm-only-sound-is-moved : (t : List ℤ) (i : ℕ) (s : ℤ) (out : List ℤ) → moveNumber gtm t i s out ≡ done → MoveAccepted gtm t i s out
+gtm-only-sound-is-moved = only-sound-is-moved gtm
+
+pub gtm-refused-move-writes-nothing : (t : List ℤ) (i : ℕ) (s : ℤ) (out : List ℤ) → 0 < moveNumber gtm t i s out → moveOutput gtm t i s out ≡ out
+gtm-refused-move-writes-nothing = refused-move-writes-nothing gtm
 
 -- There is no variable above 1: 5.
 pub gtm-no-third-variable : (t : List ℤ) (i : ℕ) (s : ℤ) (out : List ℤ) → length t ≡ tableLength gtm → length out ≡ tableLength gtm → 2 ≤ i → moveNumber gtm t i s out ≡ noVariable
