@@ -21,7 +21,7 @@ use Rattle.layout.specs.Shape.{Shape, kindsLength}
 use Rattle.layout.specs.Blocks.{Piece, piece, led, groups, laidOut, counts, keep, chosen}
 use Rattle.layout.specs.Moving.{movedBlock}
 use Rattle.layout.proofs.Fine.{FineKind}
-use Rattle.layout.proofs.Walk.{length-next, length-none, groups-next, groups-none}
+use Rattle.laws.proofs.Walk.{length-next, length-none, groups-next, groups-none}
 use Rattle.blocks.specs.Ready.{between, placed, shiftReach, EachLight, ShiftableGroup, Shiftable}
 use Rattle.blocks.proofs.Filled.{length-placed, take-placed}
 use Rattle.blocks.proofs.Sums.{few}

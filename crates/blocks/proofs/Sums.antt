@@ -23,8 +23,8 @@ use Rattle.layout.specs.Shape.{Shape, kindsLength, blockStart, own, shared, own
 use Rattle.layout.specs.Blocks.{piece, led, groups, coefficient}
 use Rattle.layout.specs.Reading.{readings}
 use Rattle.layout.proofs.Fine.{FineKind, Split, inside}
-use Rattle.layout.proofs.Walk.{length-next, groups-next, groups-none}
-use Rattle.layout.proofs.Own.{block-long, own-inside, coefficient-own}
+use Rattle.laws.proofs.Walk.{length-next, groups-next, groups-none}
+use Rattle.laws.proofs.Own.{block-long, own-inside, coefficient-own}
 use Rattle.blocks.specs.Ready.{sizes, GroupAt, Valued}
 
 pub few : (d : ℕ) → d ≤ highestDegree → size d ≤ size highestDegree

@@ -19,7 +19,7 @@ use Rattle.layout.specs.Blocks.{Piece, low, high, groups, laidOut, chosen, coef
 use Rattle.layout.specs.Refusals.{done}
 use Rattle.layout.specs.Reading.{values, readNumber, readOutput}
 use Rattle.layout.proofs.Fine.{well-formed, fine}
-use Rattle.layout.proofs.Refused.{read-given}
+use Rattle.laws.proofs.Refused.{read-given}
 use Rattle.printed.specs.Values.{Angles, at}
 use Rattle.printed.specs.Stored.{eachBelongs}
 use Rattle.printed.proofs.Answers.{at-⊕, held, printedIn, all-hold, held-total, values-printed}

@@ -19,7 +19,7 @@ use Rattle.whole.proofs.Ring.{*ℤ-assoc, pow-zero, pow-suc, pow-add, pow-mul}
 use Rattle.polynomials.proofs.Semiring.{whole, nil-mul, add-mul}
 use Rattle.layout.specs.Shape.{cumulus}
 use Rattle.layout.specs.Limits.{every}
-use Rattle.layout.proofs.Tests.{&&-left, &&-right, every-all, true-iff, leZ-fact, fact-leZ}
+use Rattle.laws.proofs.Tests.{&&-left, &&-right, every-all, true-iff, leZ-fact, fact-leZ}
 use Rattle.printed.specs.Notation.{Monomial, Term, Polynomial}
 use Rattle.printed.specs.Values.{Angles, totalDegree, degreeIn, monomialAt, scaleIn, scaled, at}
 use Rattle.printed.proofs.Monomials.{product-multiple}

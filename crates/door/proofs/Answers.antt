@@ -27,7 +27,7 @@ use Rattle.layout.specs.Sound.{light}
 use Rattle.layout.specs.Refusals.{Refusal, _when_, first, wrongTable, wrongOutput, badLimits, tooHeavy, outside}
 use Rattle.layout.specs.Blocks.{coefficient}
 use Rattle.layout.specs.Reading.{inside, pieceAt, values, readNumber, readOutput}
-use Rattle.layout.proofs.Refused.{read-given, read-kept}
+use Rattle.laws.proofs.Refused.{read-given, read-kept}
 use Rattle.limits.proofs.Firsts.{first-past, first-none, first-at}
 use Rattle.tables.proofs.Steps.{first-apart}
 use Rattle.rounding.specs.Value.{numerator, denominator}

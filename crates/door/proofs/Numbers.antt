@@ -19,7 +19,7 @@ use Rattle.layout.specs.Shape.{tableLength, cumulus}
 use Rattle.layout.specs.Limits.{good}
 use Rattle.layout.specs.Sound.{light}
 use Rattle.layout.specs.Refusals.{Refusal, _when_, first, unlessRefused, wrongTable, badLimits, tooHeavy, outside}
-use Rattle.layout.proofs.Refused.{first-skip}
+use Rattle.laws.proofs.Refused.{first-skip}
 use Rattle.limits.proofs.Firsts.{first-past, first-none, first-at}
 use Rattle.tables.specs.Ready.{tableRefusals, tableNumber}
 use Rattle.tables.proofs.Steps.{first-apart}

@@ -12,7 +12,7 @@ use Rattle.layout.specs.Shape.{cumulus}
 use Rattle.layout.specs.Limits.{lowest, highest}
 use Rattle.layout.specs.Refusals.{first}
 use Rattle.layout.specs.Reading.{inside}
-use Rattle.layout.proofs.Tests.{&&-both, fact-leZ}
+use Rattle.laws.proofs.Tests.{&&-both, fact-leZ}
 use Rattle.rounding.specs.Reading.{wholeOf}
 use Rattle.rounding.specs.declared.Step.{Step}
 use Rattle.rounding.specs.declared.Step.the-variants.{Whole}

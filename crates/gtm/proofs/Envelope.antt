@@ -19,7 +19,7 @@ use Rattle.layout.specs.Blocks.{groups, laidOut, chosen, coefficient}
 use Rattle.layout.specs.Sound.{withinCap, SoundTable}
 use Rattle.layout.specs.Refusals.{done}
 use Rattle.layout.specs.Reading.{inside, readNumber}
-use Rattle.layout.proofs.Accepted.{read-done-exactly}
+use Rattle.laws.proofs.Accepted.{read-done-exactly}
 use Rattle.printed.proofs.Envelope.{between, within}
 use Rattle.gtm.specs.Published.{published}
 use Rattle.gtm.specs.Envelope.{Envelope}

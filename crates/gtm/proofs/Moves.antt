@@ -18,7 +18,7 @@ use Rattle.layout.specs.Sound.{withinCap}
 use Rattle.layout.specs.Refusals.{done}
 use Rattle.layout.specs.Moving.{moveNumber}
 use Rattle.layout.proofs.Fine.{well-formed}
-use Rattle.layout.proofs.SingleMoves.{nearEnough, single-moves}
+use Rattle.laws.proofs.SingleMoves.{nearEnough, single-moves}
 use Rattle.gtm.specs.Published.{published}
 use Rattle.gtm.specs.Envelope.{farthestMove}
 use Rattle.gtm.proofs.Envelope.{sound-table}

@@ -3,7 +3,8 @@
 use mathlib.Core.Path.{_≡_, refl}
 use mathlib.Core.Bool.{Bool, true, false}
 use mathlib.Core.List.{List, [], _∷_, _++_, map}
-use Prim.Native.Nat.{ℕ, suc, _-_, _*_}
+use Prim.Native.Nat.{ℕ, suc, _-_, _*_, _<_}
+use native.Mathlib.Omega.{arith}
 use lib.IntN.{ℤ, pos, negℤ, pow, one}
 use lib.ListN.{length, replicate, getD, take, drop}
 use Rattle.polynomials.specs.Sum.{sum, listed}
@@ -11,16 +12,17 @@ use Rattle.polynomials.specs.Order.{powers, below, size}
 use Rattle.polynomials.specs.Binomial.{choose}
 use Rattle.polynomials.specs.Group.{number, term, evaluated, given, movedNumber, replaced}
 use Rattle.polynomials.specs.Groups.{total, totalWeight, movedGroup, longer}
-use Rattle.layout.specs.Shape.{Shape, limitsLength, lowestPlace, highestPlace, kindsLength, blockLength, blockStart, tableLength, cumulus, gtm}
+use Rattle.layout.specs.Shape.{Shape, InVariables, WellFormed, ownAt, sharedAt, limitsLength, lowestPlace, highestPlace, kindsLength, blockLength, blockStart, tableLength, cumulus, gtm}
 use Rattle.layout.specs.Numbers.{limitsSize, blockSize, tableSize, pitchSize, sideSize, variablesRoom, limitsRoom, reachesRoom}
-use Rattle.layout.specs.Limits.{every, allInRange, good}
+use Rattle.layout.specs.Limits.{every, longestShift, allInRange, good}
 use Rattle.layout.specs.Blocks.{low, high, block, groups, laidOut, chosen, coefficient}
-use Rattle.layout.specs.Sound.{reach, withinCap, light, sound}
+use Rattle.layout.specs.Sound.{reach, withinCap, light, sound, SoundTable}
 use Rattle.layout.specs.Reaches.{listedReaches, reachesOf}
 use Rattle.layout.specs.Refusals.{outside, first}
 use Rattle.layout.specs.Publishing.{publishNumber, publishOutput}
 use Rattle.layout.specs.Reading.{readings, inside, values, readNumber, readOutput}
-use Rattle.layout.specs.Moving.{owner, joined, movedLimit, movedLimits, movedBlock, movedTable, moveNumber, moveOutput}
+use Rattle.layout.specs.Moving.{owner, joined, movedLimit, movedLimits, movedBlock, movedTable, movedState, moveLight, moveNumber, moveOutput}
+use Rattle.layout.specs.Accepted.{ReadAccepted, MoveAccepted}
 
 -- ════ the places of a Cumulus One table
 lengths : limitsLength cumulus ∷ blockLength cumulus ∷ tableLength cumulus ∷ [] ≡ 11 ∷ 50 ∷ 311 ∷ []
@@ -255,6 +257,39 @@ read-output = refl
 move-output : map (λ i. getD (moveOutput smallShape table i (pos 4) (replicate 19 (pos 8))) 0 (pos 0)) (0 ∷ 2 ∷ []) ≡ negℤ (pos 14) ∷ pos 8 ∷ []
 unfolding sum listed powers below choose number term evaluated given movedNumber replaced totalWeight movedGroup longer kindsLength every allInRange good groups laidOut chosen coefficient withinCap first movedLimit movedLimits movedBlock joined movedTable moveNumber moveOutput pow one
 move-output = refl
+
+-- ════ places of groups, and how far a shift goes
+-- in the block that starts at 11: the low and the high group, then those that count in both pieces
+group-places : map (ownAt cumulus 11) (0 ∷ 1 ∷ []) ∷ (sharedAt cumulus 11 ∷ []) ∷ [] ≡ (11 ∷ 21 ∷ []) ∷ (31 ∷ []) ∷ []
+unfolding below
+group-places = refl
+
+-- from one end of the range to the other
+range-crossed : longestShift ≡ 4000
+range-crossed = refl
+
+-- by 3 in the second: what the moved table reads where the old one read 20
+state-moved : movedState 1 (pos 3) (pos 10 ∷ pos 20 ∷ []) ≡ pos 10 ∷ pos 17 ∷ []
+state-moved = refl
+
+-- ════ what the records say, part by part
+-- in two variables only where both are below two
+both-below : InVariables 2 (record { u = 0; v = 2; degree = 1 } ∷ []) → ⊥
+both-below h = omega arith
+
+has-one : (S : Shape) → WellFormed S → 0 < S .variables
+has-one S w = w .has-variable
+
+sound-says : (S : Shape) (t : List ℤ) → SoundTable S t → (length t ≡ tableLength S) × (sound S t ≡ true)
+sound-says S t w = (w .long, w .is-sound)
+
+read-says : (S : Shape) (t : List ℤ) (x : ℕ → ℤ) (out : List ℤ) → length t ≡ tableLength S → length out ≡ S .blocks → good S t ≡ true → light S t ≡ true
+    → ((i : ℕ) → i < S .variables → inside S t x i ≡ true) → ReadAccepted S t x out
+read-says S t x out a b c d e = record { table = a; output = b; limits = c; weights = d; readings = e }
+
+move-says : (S : Shape) (t : List ℤ) (i : ℕ) (s : ℤ) (out : List ℤ) → length t ≡ tableLength S → length out ≡ tableLength S → i < S .variables → good S t ≡ true → light S t ≡ true
+    → allInRange S (movedLimits S i s t) ≡ true → moveLight S i s t ≡ true → MoveAccepted S t i s out
+move-says S t i s out a b c d e f g = record { table = a; output = b; variable = c; limits = d; weights = e; moved-limits = f; moved-weights = g }
 
 -- ════ publishing: with room for one number fewer, as many, and one more
 publish-controls : map (publishNumber (pos 1 ∷ pos 2 ∷ [])) (replicate 1 (pos 8) ∷ replicate 2 (pos 8) ∷ replicate 3 (pos 8) ∷ []) ≡ 2 ∷ 0 ∷ 2 ∷ []

@@ -14,7 +14,7 @@ use lib.IntN.{ℤ, pos, negℤ, natAbs}
 use lib.Signed.{leZ}
 use Rattle.whole.proofs.Order.{two-sided, from-two}
 use Rattle.layout.specs.Limits.{every}
-use Rattle.layout.proofs.Tests.{&&-left, &&-right, &&-both, true-iff, leZ-fact, fact-leZ, every-all, all-every}
+use Rattle.laws.proofs.Tests.{&&-left, &&-right, &&-both, true-iff, leZ-fact, fact-leZ, every-all, all-every}
 
 module _ {n m : ℕ} {f g : ℕ → Bool} (few : n ≤ m) (same : (k : ℕ) → k < n → g k ≡ f k) (past : (k : ℕ) → n ≤ k → g k ≡ true) where
   pub every-room : every m g ≡ every n f

@@ -22,10 +22,10 @@ use Rattle.layout.specs.Blocks.{Piece, low, high, piece}
 use Rattle.layout.specs.Sound.{reach}
 use Rattle.layout.specs.Refusals.{Refusal, _when_, first, unlessRefused, done, wrongOutput, outside}
 use Rattle.layout.specs.Reading.{inside, pieceAt}
-use Rattle.layout.proofs.Tests.{every-all}
-use Rattle.layout.proofs.Reaches.{inside-reach}
-use Rattle.layout.proofs.Refused.{first-skip, first-hit, first-none, refusedReadings, length-refusedReadings, getD-refusedReadings}
-use Rattle.layout.proofs.Accepted.{first-passed, first-done}
+use Rattle.laws.proofs.Tests.{every-all}
+use Rattle.laws.proofs.Reaches.{inside-reach}
+use Rattle.laws.proofs.Refused.{first-skip, first-hit, first-none, refusedReadings, length-refusedReadings, getD-refusedReadings}
+use Rattle.laws.proofs.Accepted.{first-passed, first-done}
 use Rattle.cumulus.specs.Model.{coefficients, coefficientAt, microradians}
 use Rattle.microradians.specs.Answer.{fineLimits, answerIn, fineAnswers, fineNumber, fineOutput}
 use Rattle.microradians.specs.Ready.{AllNear}

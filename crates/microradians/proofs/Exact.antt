@@ -35,7 +35,7 @@ use Rattle.layout.specs.Limits.{every, cut}
 use Rattle.layout.specs.Refusals.{done}
 use Rattle.layout.specs.Reading.{pieceAt}
 use Rattle.layout.specs.Sound.{reach}
-use Rattle.layout.proofs.Tests.{every-all}
+use Rattle.laws.proofs.Tests.{every-all}
 use Rattle.layout.proofs.Fine.{well-formed}
 use Rattle.layout.specs.declared.Model.the-variants.{Cumulus}
 use Rattle.printed.specs.Notation.{Polynomial}

@@ -30,7 +30,7 @@ use Rattle.polynomials.proofs.Downward.{downward-ext}
 use Rattle.layout.specs.Shape.{cumulus, kindAt}
 use Rattle.layout.specs.Blocks.{piece}
 use Rattle.layout.specs.Limits.{every}
-use Rattle.layout.proofs.Tests.{every-all}
+use Rattle.laws.proofs.Tests.{every-all}
 use Rattle.cumulus.specs.Model.{Coefficient, coefficientAt}
 use Rattle.printed.specs.Stored.{printedAt}
 use Rattle.microradians.specs.Fixed.{perPrinted, _⊛_, nano, inFixedPoint}

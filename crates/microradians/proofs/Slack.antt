@@ -16,7 +16,7 @@ use Rattle.whole.proofs.Magnitudes.{natAbs-zero}
 use Rattle.polynomials.specs.Numbers.{ints}
 use Rattle.polynomials.specs.Downward.{down, rowDownward, downward}
 use Rattle.polynomials.proofs.Semiring.{whole, nil-mul}
-use Rattle.layout.proofs.Tests.{&&-left, &&-right}
+use Rattle.laws.proofs.Tests.{&&-left, &&-right}
 use Rattle.microradians.specs.Fixed.{perPrinted, _⊛_}
 use Rattle.microradians.proofs.Off.{M, Off, off-exact, off-+, off-times, off-nil, nil-times}
 

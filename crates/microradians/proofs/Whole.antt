@@ -19,7 +19,7 @@ use Rattle.layout.specs.Shape.{cumulus}
 use Rattle.layout.specs.Limits.{lowest, highest}
 use Rattle.layout.specs.Refusals.{_when_, first, done, outside}
 use Rattle.layout.specs.Reading.{inside, readNumber, readOutput}
-use Rattle.layout.proofs.Tests.{true-iff, leZ-fact, fact-leZ}
+use Rattle.laws.proofs.Tests.{true-iff, leZ-fact, fact-leZ}
 use Rattle.cumulus.specs.Model.{coefficients, coefficientAt, modelValue, fineValue}
 use Rattle.cumulus.specs.Published.{published}
 use Rattle.cumulus.proofs.Envelope.{read-number, read-inside}

@@ -29,12 +29,12 @@ use Rattle.layout.specs.Reaches.{reachAt, listedReaches, reachesOf}
 use Rattle.layout.specs.Refusals.{first}
 use Rattle.layout.specs.Moving.{owner, movedLimit, movedLimits, moveReach, moveLight, moveNumber, moveOutput}
 use Rattle.layout.proofs.Fine.{well-formed, few-variables, few-limits}
-use Rattle.layout.proofs.LimitLaws.{SameLimits, allInRange-same, reach-same}
-use Rattle.layout.proofs.Moved.{getD-movedLimits}
-use Rattle.layout.proofs.Refused.{move-asked, move-kept}
-use Rattle.layout.proofs.Reaches.{reach-one, reach-other, longer-other, listed-reach, listed-one}
-use Rattle.layout.proofs.SoundMoved.{move-within, moved-reach-within}
-use Rattle.layout.proofs.Weights.{withinCap-agreed}
+use Rattle.laws.proofs.LimitLaws.{SameLimits, allInRange-same, reach-same}
+use Rattle.laws.proofs.Moved.{getD-movedLimits}
+use Rattle.laws.proofs.Refused.{move-asked, move-kept}
+use Rattle.laws.proofs.Reaches.{reach-one, reach-other, longer-other, listed-reach, listed-one}
+use Rattle.laws.proofs.SoundMoved.{move-within, moved-reach-within}
+use Rattle.laws.proofs.Weights.{withinCap-agreed}
 use Rattle.limits.specs.declared.Limits.{Limits}
 use Rattle.moving.specs.Ready.{Lengthened}
 use Rattle.tables.specs.Ready.{unsound}

@@ -29,7 +29,7 @@ use Rattle.layout.specs.Shape.{Shape, WellFormed}
 use Rattle.layout.specs.Limits.{cut}
 use Rattle.layout.specs.Blocks.{Piece, low, high, counts, keep, chosen, coefficient}
 use Rattle.layout.specs.Reading.{values}
-use Rattle.layout.proofs.Tests.{&&-left, &&-right}
+use Rattle.laws.proofs.Tests.{&&-left, &&-right}
 use Rattle.layout.proofs.Fine.{FineKind, Fine}
 use Rattle.printed.specs.Notation.{Term, Polynomial, _⊕_}
 use Rattle.printed.specs.Values.{Angles, totalDegree, degreeIn, monomialAt, scaleIn, scaled, at, together}

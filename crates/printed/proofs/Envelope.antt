@@ -4,7 +4,7 @@ use mathlib.Core.Path.{_≡_}
 use mathlib.Core.Bool.{true, _&&_}
 use lib.IntN.{ℤ}
 use lib.Signed.{leZ}
-use Rattle.layout.proofs.Tests.{&&-left, &&-right, &&-both, leZ-fact, fact-leZ}
+use Rattle.laws.proofs.Tests.{&&-left, &&-right, &&-both, leZ-fact, fact-leZ}
 use Rattle.printed.specs.Envelope.{Inclusive}
 
 pub between : {a b z : ℤ} → leZ a z && leZ z b ≡ true → Inclusive a b z

@@ -11,7 +11,7 @@ use lib.IntN.{ℤ, pos, natAbs}
 use lib.ListN.{getD}
 use Rattle.layout.specs.Shape.{Shape, limitsLength, blockLength, tableLength}
 use Rattle.layout.specs.Limits.{every}
-use Rattle.layout.proofs.Tests.{every-all}
+use Rattle.laws.proofs.Tests.{every-all}
 use Rattle.printed.specs.Values.{Angles, scaleIn}
 use Rattle.printed.specs.Stored.{Multiple, degreeAt}
 

@@ -22,10 +22,10 @@ use Rattle.layout.specs.Reaches.{listedReaches, reachesOf}
 use Rattle.layout.specs.Refusals.{first, _when_, outside}
 use Rattle.layout.specs.Reading.{inside}
 use Rattle.layout.proofs.Fine.{well-formed, few-variables, few-limits}
-use Rattle.layout.proofs.LimitLaws.{SameLimits, good-same, allInRange-same, reach-same, inside-same, cut-same}
-use Rattle.layout.proofs.Reaches.{reach-other, listed-back}
-use Rattle.layout.proofs.Refused.{refusedReadings}
-use Rattle.layout.proofs.Weights.{withinCap-agreed}
+use Rattle.laws.proofs.LimitLaws.{SameLimits, good-same, allInRange-same, reach-same, inside-same, cut-same}
+use Rattle.laws.proofs.Reaches.{reach-other, listed-back}
+use Rattle.laws.proofs.Refused.{refusedReadings}
+use Rattle.laws.proofs.Weights.{withinCap-agreed}
 use Rattle.limits.specs.declared.Limits.{Limits}
 
 pub first-nothing : first [] ≡ 0

@@ -18,8 +18,8 @@ use Rattle.layout.specs.Numbers.{variablesRoom}
 use Rattle.layout.specs.Blocks.{Piece, low, high, piece, led, groups, coefficient}
 use Rattle.layout.specs.Reaches.{reachesOf}
 use Rattle.layout.proofs.Fine.{Beside, Split, split, Fine, fine, fine-drop, own-fine, few-variables}
-use Rattle.layout.proofs.Walk.{length-next, groups-next, groups-none}
-use Rattle.layout.proofs.Own.{block-long, coefficient-own}
+use Rattle.laws.proofs.Walk.{length-next, groups-next, groups-none}
+use Rattle.laws.proofs.Own.{block-long, coefficient-own}
 use Rattle.weights.specs.Ready.{reachIn, highIn, Measured}
 
 -- ════ part of the way through the shared groups: those before the one numbered g are weighed, and it stands at `at`

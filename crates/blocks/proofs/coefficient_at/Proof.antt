@@ -20,7 +20,7 @@ use Rattle.layout.specs.Numbers.{tableSize}
 use Rattle.layout.specs.Blocks.{piece, led, coefficient}
 use Rattle.layout.specs.Reading.{readings}
 use Rattle.layout.proofs.Fine.{FineKind, fine, fine-at, split, own-fine, two-groups, few-table}
-use Rattle.layout.proofs.Walk.{at-kind}
+use Rattle.laws.proofs.Walk.{at-kind}
 use Rattle.blocks.specs.Ready.{GroupAt}
 use Rattle.blocks.proofs.Sums.{Summed, shared-long, own-long, own-ready, summed-own, summed-all, next-ready, more-fits, summed-more}
 use Rattle.blocks.proofs.coefficient_at.Statement.{statement}

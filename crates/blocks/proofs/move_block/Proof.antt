@@ -14,7 +14,7 @@ use Rattle.polynomials.proofs.Places.{below-highest}
 use Rattle.layout.specs.declared.Kind.{Kind}
 use Rattle.layout.specs.Shape.{Shape, shape}
 use Rattle.layout.proofs.Fine.{FineKind, fine, fine-at, split, two-groups, own-fine, few-block}
-use Rattle.layout.proofs.Walk.{at-kind}
+use Rattle.laws.proofs.Walk.{at-kind}
 use Rattle.blocks.specs.Ready.{between, placed, Between}
 use Rattle.blocks.proofs.BlockMoves.{Moved, moved-none, moved-all, moved-more, next-end, next-ready}
 use Rattle.blocks.proofs.Sums.{few}

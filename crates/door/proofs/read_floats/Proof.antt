@@ -22,8 +22,8 @@ use Rattle.layout.specs.Refusals.{first, _when_}
 use Rattle.layout.specs.Reading.{readings, pieceAt}
 use Rattle.layout.specs.Accepted.{ReadAccepted}
 use Rattle.layout.proofs.Fine.{well-formed}
-use Rattle.layout.proofs.Weights.{total-agreed}
-use Rattle.layout.proofs.LimitLaws.{limits-take, lowest-same, highest-same, allInRange-same, good-facts, counted-half, counted-piece}
+use Rattle.laws.proofs.Weights.{total-agreed}
+use Rattle.laws.proofs.LimitLaws.{limits-take, lowest-same, highest-same, allInRange-same, good-facts, counted-half, counted-piece}
 use Rattle.tables.proofs.Taken.{cut-taken}
 use Rattle.tables.proofs.Steps.{first-apart, known-sound, valued, positive}
 use Rattle.rounding.specs.Reading.{stepOf}

@@ -12,7 +12,7 @@ use Rattle.polynomials.proofs.Listed.{listed-more, listed-all}
 use Rattle.layout.specs.Limits.{lowest, highest}
 use Rattle.layout.specs.Shape.{cumulus, shape, lowestPlace, highestPlace}
 use Rattle.limits.proofs.Held.{held}
-use Rattle.layout.proofs.LimitLaws.{lowest-among, highest-among, range-within}
+use Rattle.laws.proofs.LimitLaws.{lowest-among, highest-among, range-within}
 use Rattle.rounding.specs.Reading.{stepOf}
 use Rattle.door.specs.Door.{floats, stepAt}
 use Rattle.door.proofs.steps_of.Statement.{statement}

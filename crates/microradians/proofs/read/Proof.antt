@@ -12,7 +12,7 @@ use Rattle.layout.specs.Shape.{cumulus}
 use Rattle.layout.specs.Limits.{cut}
 use Rattle.layout.specs.Refusals.{done}
 use Rattle.layout.specs.Reading.{readings}
-use Rattle.layout.proofs.LimitLaws.{counted-half, counted-piece}
+use Rattle.laws.proofs.LimitLaws.{counted-half, counted-piece}
 use Rattle.microradians.specs.Answer.{fineLimits, fineNumber}
 use Rattle.microradians.proofs.Answers.{refused, wrong-room, room-number, all-near, piece-given}
 use Rattle.microradians.proofs.read.Statement.{statement}

@@ -20,9 +20,9 @@ use Rattle.layout.specs.Reaches.{listedReaches, reachesOf}
 use Rattle.layout.specs.Moving.{movedLimits, moveLight}
 use Rattle.layout.specs.Refusals.{limitPast, moveTooHeavy}
 use Rattle.layout.proofs.Fine.{some-table}
-use Rattle.layout.proofs.LimitLaws.{good-facts}
-use Rattle.layout.proofs.Reaches.{listed-one, listed-longer}
-use Rattle.layout.proofs.Refused.{first-skip, first-hit}
+use Rattle.laws.proofs.LimitLaws.{good-facts}
+use Rattle.laws.proofs.Reaches.{listed-one, listed-longer}
+use Rattle.laws.proofs.Refused.{first-skip, first-hit}
 use Rattle.tables.proofs.Taken.{first-nothing, range-taken}
 use Rattle.moving.specs.Ready.{longerAt, Lengthened}
 use Rattle.moving.proofs.Steps.{movedRoom, moved-held, moved-range, moved-reaches, longerReach, move-far, lengthened, move-one, move-light}

@@ -19,7 +19,7 @@ use Rattle.layout.specs.Publishing.{publishNumber, publishOutput}
 use Rattle.layout.specs.Reading.{inside, values, readNumber, readOutput}
 use Rattle.layout.specs.Moving.{movedLimits, moveLight, moveNumber, moveOutput}
 use Rattle.layout.specs.Accepted.{ReadAccepted, MoveAccepted}
-use Rattle.layout.proofs.Published.{fitting, other}
+use Rattle.laws.proofs.Published.{fitting, other}
 use Rattle.printed.specs.Values.{scaleIn}
 use Rattle.printed.specs.Stored.{eachBelongs, Multiple, degreeAt}
 use Rattle.gtm.specs.Model.{coefficients, parts, milliradians, modelValue}

@@ -5,7 +5,7 @@ use Prim.Native.Nat.{ℕ, _<_}
 use lib.IntN.{ℤ, pos, negℤ}
 use Rattle.layout.specs.Shape.{cumulus}
 use Rattle.layout.specs.Reading.{readings, readNumber, readOutput}
-use Rattle.layout.proofs.Refused.{read-kept}
+use Rattle.laws.proofs.Refused.{read-kept}
 use Rattle.cumulus.specs.Published.{published}
 use Rattle.lines.specs.Line.{parse}
 use Rattle.lines.specs.declared.Line.the-variants.{Readings, Malformed}

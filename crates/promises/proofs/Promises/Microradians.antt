@@ -14,7 +14,7 @@ use Rattle.layout.specs.Shape.{cumulus}
 use Rattle.layout.specs.Limits.{lowest, highest}
 use Rattle.layout.specs.Refusals.{done, wrongOutput, outside}
 use Rattle.layout.specs.Reading.{inside, readNumber, readOutput}
-use Rattle.layout.proofs.Accepted.{same-exactly}
+use Rattle.laws.proofs.Accepted.{same-exactly}
 use Rattle.cumulus.specs.Model.{coefficientAt, fineValue}
 use Rattle.cumulus.specs.Published.{published}
 use Rattle.microradians.specs.Answer.{fineLimits, fineNumber, fineOutput}

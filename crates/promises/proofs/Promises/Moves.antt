@@ -17,14 +17,14 @@ use Rattle.layout.specs.Refusals.{done, wrongTable, noVariable, limitPast, move
 use Rattle.layout.specs.Reading.{readings, readNumber, readOutput}
 use Rattle.layout.specs.Moving.{movedLimit, movedLimits, movedTable, movedState, moveReach, moveLight, moveNumber, moveOutput}
 use Rattle.layout.specs.Accepted.{MoveAccepted}
-use Rattle.layout.proofs.LimitLaws.{good-facts, range-within, within-range}
-use Rattle.layout.proofs.Weights.{withinCap-fact, fact-withinCap}
+use Rattle.laws.proofs.LimitLaws.{good-facts, range-within, within-range}
+use Rattle.laws.proofs.Weights.{withinCap-fact, fact-withinCap}
 use Rattle.layout.specs.declared.Model.the-variants.{Cumulus}
-use Rattle.layout.proofs.Moved.{getD-movedLimits, movedTable-twice, movedTable-nil, movedTable-back, movedTable-swap}
-use Rattle.layout.proofs.SoundMoved.{moved-sound, still-range, still-light}
-use Rattle.layout.proofs.ReadingMoved.{readings-moved, readNumber-moved, readOutput-moved}
-use Rattle.layout.proofs.Refused.{move-given, move-kept, move-wrong-table, move-no-variable}
-use Rattle.layout.proofs.Accepted.{move-told, sound-limits, sound-weights, move-done-exactly, move-limit-past-exactly, move-past-cap-exactly, move-no-other}
+use Rattle.laws.proofs.Moved.{getD-movedLimits, movedTable-twice, movedTable-nil, movedTable-back, movedTable-swap}
+use Rattle.laws.proofs.SoundMoved.{moved-sound, still-range, still-light}
+use Rattle.laws.proofs.ReadingMoved.{readings-moved, readNumber-moved, readOutput-moved}
+use Rattle.laws.proofs.Refused.{move-given, move-kept, move-wrong-table, move-no-variable}
+use Rattle.laws.proofs.Accepted.{move-told, sound-limits, sound-weights, move-done-exactly, move-limit-past-exactly, move-past-cap-exactly, move-no-other}
 use Rattle.cumulus.specs.Envelope.{farthestMove}
 use Rattle.cumulus.specs.Published.{published}
 use Rattle.cumulus.proofs.Moves.{move-accepted}

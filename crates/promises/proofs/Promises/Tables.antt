@@ -21,14 +21,14 @@ use Rattle.layout.specs.Publishing.{publishNumber, publishOutput}
 use Rattle.layout.specs.Reading.{inside, values, readNumber, readOutput}
 use Rattle.layout.specs.Accepted.{ReadAccepted}
 use Rattle.layout.proofs.Fine.{well-formed}
-use Rattle.layout.proofs.Sizes.{block-size, start-size, table-size}
-use Rattle.layout.proofs.Tests.{&&-left, &&-right, &&-both, leZ-fact, fact-leZ}
-use Rattle.layout.proofs.LimitLaws.{good-facts, facts-good, limit-within, within-range}
-use Rattle.layout.proofs.Weights.{withinCap-fact, fact-withinCap}
-use Rattle.layout.proofs.Heavy.{smallest-heavy}
-use Rattle.layout.proofs.Published.{fitting, other, publish-kept}
-use Rattle.layout.proofs.Refused.{refusedReadings, read-given, read-kept, read-wrong-table, read-sound, read-done}
-use Rattle.layout.proofs.Accepted.{read-told, sound-limits, sound-weights, same-exactly}
+use Rattle.laws.proofs.Sizes.{block-size, start-size, table-size}
+use Rattle.laws.proofs.Tests.{&&-left, &&-right, &&-both, leZ-fact, fact-leZ}
+use Rattle.laws.proofs.LimitLaws.{good-facts, facts-good, limit-within, within-range}
+use Rattle.laws.proofs.Weights.{withinCap-fact, fact-withinCap}
+use Rattle.laws.proofs.Heavy.{smallest-heavy}
+use Rattle.laws.proofs.Published.{fitting, other, publish-kept}
+use Rattle.laws.proofs.Refused.{refusedReadings, read-given, read-kept, read-wrong-table, read-sound, read-done}
+use Rattle.laws.proofs.Accepted.{read-told, sound-limits, sound-weights, same-exactly}
 use Rattle.printed.specs.Stored.{eachBelongs, Multiple, degreeAt}
 use Rattle.cumulus.specs.Model.{coefficients, parts, modelValue, scale}
 use Rattle.cumulus.specs.Envelope.{Envelope}

@@ -14,7 +14,7 @@ use Rattle.layout.specs.declared.Kind.{Kind}
 use Rattle.layout.specs.Shape.{Shape, shape, shared, sharedAt}
 use Rattle.layout.specs.Blocks.{led, groups}
 use Rattle.layout.proofs.Fine.{FineKind, fine, fine-at, own-fine, two-groups, split, few-variables}
-use Rattle.layout.proofs.Walk.{at-kind}
+use Rattle.laws.proofs.Walk.{at-kind}
 use Rattle.weights.specs.Ready.{highIn, GroupWeighable}
 use Rattle.weights.proofs.Weighing.{Weighing, weighing-none, weighing-all, weighing-more, next-inside, next-weight}
 use Rattle.weights.proofs.shared.Statement.{statement}

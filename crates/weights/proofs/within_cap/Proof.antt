@@ -28,9 +28,9 @@ use Rattle.layout.specs.Limits.{every}
 use Rattle.layout.specs.Blocks.{groups}
 use Rattle.layout.specs.Sound.{withinCap}
 use Rattle.layout.specs.Reaches.{reachesOf}
-use Rattle.layout.proofs.Tests.{every-none, every-more, every-stops, every-ext}
+use Rattle.laws.proofs.Tests.{every-none, every-more, every-stops, every-ext}
 use Rattle.layout.proofs.Fine.{FineKind, split, two-groups, own-fine, inside, few-variables, few-table}
-use Rattle.layout.proofs.Own.{own-inside}
+use Rattle.laws.proofs.Own.{own-inside}
 use Rattle.weights.specs.Ready.{reachIn, highIn, Measured}
 use Rattle.weights.proofs.Weighing.{ownWeight, bothWeight, coefficient-weight}
 use Rattle.weights.proofs.within_cap.Statement.{statement}

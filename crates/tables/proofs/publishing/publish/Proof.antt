@@ -1,7 +1,7 @@
 -- `tables::publishing::publish` meets its contract, by the length of the output. Assumes nothing.
 use mathlib.Core.Path.{sym, _∙_}
 use borrow.Author.Needs.{needs}
-use Rattle.layout.proofs.Published.{fitting, other}
+use Rattle.laws.proofs.Published.{fitting, other}
 use Rattle.tables.proofs.publishing.publish.Statement.{statement}
 use Rattle.tables.proofs.publishing.publish.Tie as tie
 

@@ -4,7 +4,7 @@ use borrow.Author.Needs.{needs}
 use borrow.Author.Tests.{eq-eqb, ne-eqb}
 use Rattle.layout.specs.Shape.{shape}
 use Rattle.layout.specs.Refusals.{wrongTable, wrongOutput}
-use Rattle.layout.proofs.Refused.{first-hit, first-skip}
+use Rattle.laws.proofs.Refused.{first-hit, first-skip}
 use Rattle.tables.proofs.Steps.{into-whole}
 use Rattle.tables.proofs.soundness.refusal_into.Statement.{statement}
 use Rattle.tables.proofs.soundness.refusal_into.Tie as tie

@@ -12,9 +12,9 @@ use Rattle.layout.specs.Sound.{reach, withinCap, light}
 use Rattle.layout.specs.Reaches.{listedReaches, reachesOf}
 use Rattle.layout.specs.Refusals.{badLimits, tooHeavy}
 use Rattle.layout.proofs.Fine.{some-table}
-use Rattle.layout.proofs.LimitLaws.{good-facts}
-use Rattle.layout.proofs.Reaches.{reach-one, listed-one}
-use Rattle.layout.proofs.Refused.{first-skip, first-hit}
+use Rattle.laws.proofs.LimitLaws.{good-facts}
+use Rattle.laws.proofs.Reaches.{reach-one, listed-one}
+use Rattle.laws.proofs.Refused.{first-skip, first-hit}
 use Rattle.tables.proofs.Taken.{first-nothing, taken, good-taken, range-taken, reaches-taken, light-taken}
 use Rattle.tables.proofs.soundness.soundness.Statement.{statement}
 use Rattle.tables.proofs.soundness.soundness.Tie as tie

@@ -12,17 +12,17 @@ use lib.IntN.{ℤ, pos, natAbs, _-ℤ_}
 use lib.ListN.{length, getD}
 use Rattle.whole.proofs.Magnitudes.{natAbs--}
 use Rattle.polynomials.specs.Groups.{longer}
 use Rattle.layout.specs.Shape.{Shape, WellFormed, limitsLength, tableLength}
 use Rattle.layout.specs.Limits.{every, farthestLimit, allInRange}
 use Rattle.layout.specs.Sound.{reach, withinCap, SoundTable}
 use Rattle.layout.specs.Refusals.{done}
 use Rattle.layout.specs.Moving.{owner, movedLimit, movedLimits, moveNumber}
-use Rattle.layout.proofs.Tests.{&&-left, &&-right, every-all}
-use Rattle.layout.proofs.LimitLaws.{within-range}
-use Rattle.layout.proofs.Moved.{getD-movedLimits}
-use Rattle.layout.proofs.NearMoves.{light-near}
-use Rattle.layout.proofs.Refused.{move-done}
-use Rattle.layout.proofs.Accepted.{sound-limits, sound-weights}
+use Rattle.laws.proofs.Tests.{&&-left, &&-right, every-all}
+use Rattle.laws.proofs.LimitLaws.{within-range}
+use Rattle.laws.proofs.Moved.{getD-movedLimits}
+use Rattle.laws.proofs.NearMoves.{light-near}
+use Rattle.laws.proofs.Refused.{move-done}
+use Rattle.laws.proofs.Accepted.{sound-limits, sound-weights}
 
 module _ (S : Shape) (t : List ℤ) where
   -- by moves of variable i up to the size n
