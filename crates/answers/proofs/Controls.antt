@@ -13,7 +13,7 @@ use Rattle.layout.specs.Blocks.{groups, laidOut, chosen, coefficient}
 use Rattle.layout.specs.Sound.{withinCap}
 use Rattle.layout.specs.Refusals.{first}
 use Rattle.layout.specs.Reading.{values, readNumber, readOutput}
-use Rattle.cumulus.specs.Published.{published}
+use Rattle.cumulus_page.specs.Published.{published}
 use Rattle.lines.specs.Line.{parse}
 use Rattle.printing.specs.Spell.{decimal}
 use Rattle.answers.specs.Answers.{linesOf, lineAnswer, program, trimcard}

@@ -7,7 +7,7 @@ use lib.IntN.{ℤ, pos}
 use lib.ListN.{replicate}
 use Rattle.layout.specs.Shape.{cumulus}
 use Rattle.layout.specs.Reading.{readings, readNumber, readOutput}
-use Rattle.cumulus.specs.Published.{published}
+use Rattle.cumulus_page.specs.Published.{published}
 use Rattle.lines.specs.Line.{onto, parse}
 use Rattle.lines.specs.declared.Line.{Line}
 use Rattle.lines.specs.declared.Line.the-variants.{Readings, Malformed}

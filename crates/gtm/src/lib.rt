@@ -9,7 +9,7 @@ ghost use Rattle.layout.specs.Shape.{gtm};
 ghost use Rattle.layout.specs.Publishing.{publishNumber, publishOutput};
 ghost use Rattle.layout.specs.Reading.{readings, readNumber, readOutput};
 ghost use Rattle.layout.specs.Moving.{moveNumber, moveOutput};
-ghost use Rattle.gtm.specs.Published.{published};
+ghost use Rattle.gtm_page.specs.Published.{published};
 
 // In units of 10^-17, for readings in milliradians: the limits, and for each coefficient two groups, each with a row for each total degree.
 const PUBLISHED: [i64; TABLE] = [

@@ -26,7 +26,7 @@ use Rattle.laws.proofs.Tests.{every-all}
 use Rattle.laws.proofs.Reaches.{inside-reach}
 use Rattle.laws.proofs.Refused.{first-skip, first-hit, first-none, refusedReadings, length-refusedReadings, getD-refusedReadings}
 use Rattle.laws.proofs.Accepted.{first-passed, first-done}
-use Rattle.cumulus.specs.Model.{coefficients, coefficientAt, microradians}
+use Rattle.cumulus_page.specs.Model.{coefficients, coefficientAt, microradians}
 use Rattle.microradians.specs.Answer.{fineLimits, answerIn, fineAnswers, fineNumber, fineOutput}
 use Rattle.microradians.specs.Ready.{AllNear}
 

@@ -13,7 +13,7 @@ use Rattle.polynomials.specs.Numbers.{ints}
 use Rattle.polynomials.specs.Order.{place}
 use Rattle.polynomials.specs.Group.{number}
 use Rattle.polynomials.specs.Downward.{down, rowDownward}
-use Rattle.cumulus.specs.Model.{microradians}
+use Rattle.cumulus_page.specs.Model.{microradians}
 use Rattle.microradians.specs.Fixed.{_⊛_}
 use Rattle.microradians.specs.Ready.{largest, most, Placed, Near}
 

@@ -12,7 +12,7 @@ use Rattle.polynomials.specs.Downward.{down, rowDownward}
 use Rattle.layout.specs.Refusals.{first}
 use Rattle.layout.specs.Reading.{readings}
 use Rattle.layout.specs.Shape.{cumulus, kindAt}
-use Rattle.cumulus.specs.Model.{C-X}
+use Rattle.cumulus_page.specs.Model.{C-X}
 use Rattle.microradians.specs.Fixed.{_⊛_, nano}
 use Rattle.microradians.specs.Groups.{partAt}
 use Rattle.microradians.specs.Answer.{fineLimits, fineAnswers, fineNumber, fineOutput}

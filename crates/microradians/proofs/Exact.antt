@@ -40,9 +40,9 @@ use Rattle.layout.proofs.Fine.{well-formed}
 use Rattle.layout.specs.declared.Model.the-variants.{Cumulus}
 use Rattle.printed.specs.Notation.{Polynomial}
 use Rattle.printed.specs.Values.{scaleIn, together}
-use Rattle.cumulus.specs.Model.{Coefficient, coefficientAt, microradians, pre, post, fineValue, parts}
+use Rattle.cumulus_page.specs.Model.{Coefficient, coefficientAt, microradians, pre, post, fineValue, parts}
 use Rattle.printed.specs.Stored.{degree, printedAt, group, byKind, eachBelongs}
-use Rattle.cumulus.proofs.Model.{equation, held-equation, own-variables}
+use Rattle.cumulus_page.proofs.Model.{equation, held-equation, own-variables}
 use Rattle.printed.proofs.Answers.{all-hold}
 use Rattle.microradians.specs.Fixed.{perPrinted, _⊛_, inFixedPoint}
 use Rattle.microradians.specs.Answer.{fineLimits, answerIn, fineNumber, fineOutput}

@@ -31,7 +31,7 @@ use Rattle.layout.specs.Shape.{cumulus, kindAt}
 use Rattle.layout.specs.Blocks.{piece}
 use Rattle.layout.specs.Limits.{every}
 use Rattle.laws.proofs.Tests.{every-all}
-use Rattle.cumulus.specs.Model.{Coefficient, coefficientAt}
+use Rattle.cumulus_page.specs.Model.{Coefficient, coefficientAt}
 use Rattle.printed.specs.Stored.{printedAt}
 use Rattle.microradians.specs.Fixed.{perPrinted, _⊛_, nano, inFixedPoint}
 use Rattle.microradians.specs.Groups.{groupCount, partAt, fineNumbers, fineGroup}

@@ -16,7 +16,7 @@ use Rattle.whole.proofs.Identity.{quote, quote-pos, by, ring3, ring6}
 use Rattle.whole.proofs.Magnitudes.{natAbs-+, natAbs-*}
 use Rattle.whole.proofs.Nearest.{nearest-near}
 use Rattle.polynomials.proofs.Semiring.{whole, nil-mul}
-use Rattle.cumulus.specs.Model.{microradians}
+use Rattle.cumulus_page.specs.Model.{microradians}
 use Rattle.microradians.specs.Fixed.{perPrinted, _⊛_}
 
 -- microradians in a radian

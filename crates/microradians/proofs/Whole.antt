@@ -20,11 +20,11 @@ use Rattle.layout.specs.Limits.{lowest, highest}
 use Rattle.layout.specs.Refusals.{_when_, first, done, outside}
 use Rattle.layout.specs.Reading.{inside, readNumber, readOutput}
 use Rattle.laws.proofs.Tests.{true-iff, leZ-fact, fact-leZ}
-use Rattle.cumulus.specs.Model.{coefficients, coefficientAt, modelValue, fineValue}
-use Rattle.cumulus.specs.Published.{published}
-use Rattle.cumulus.proofs.Envelope.{read-number, read-inside}
-use Rattle.cumulus.proofs.Model.{read-model}
-use Rattle.cumulus.proofs.Units.{fine-value}
+use Rattle.cumulus_page.specs.Model.{coefficients, coefficientAt, modelValue, fineValue}
+use Rattle.cumulus_page.specs.Published.{published}
+use Rattle.cumulus_page.proofs.Envelope.{read-number, read-inside}
+use Rattle.cumulus_page.proofs.Model.{read-model}
+use Rattle.cumulus_page.proofs.Units.{fine-value}
 use Rattle.microradians.specs.Answer.{fineLimits, fineNumber, fineOutput}
 use Rattle.microradians.proofs.Answers.{room-number, accepted}
 use Rattle.microradians.proofs.Exact.{near-followed}

@@ -10,10 +10,10 @@ use Rattle.layout.specs.Shape.{cutPlace, cumulus}
 use Rattle.layout.specs.Blocks.{Piece}
 use Rattle.layout.specs.Refusals.{Refusal, _when_, first, unlessRefused, wrongOutput, outside}
 use Rattle.layout.specs.Reading.{inside, pieceAt}
-use Rattle.cumulus.specs.Model.{Coefficient, coefficients, microradians, parts}
+use Rattle.cumulus_page.specs.Model.{Coefficient, coefficients, microradians, parts}
 use Rattle.printed.specs.Values.{together}
 use Rattle.printed.specs.Stored.{byKind}
-use Rattle.cumulus.specs.Published.{publishedLimits}
+use Rattle.cumulus_page.specs.Published.{publishedLimits}
 use Rattle.microradians.specs.Fixed.{inFixedPoint}
 
 -- a coefficient in a piece: of its polynomials in α and η that of the piece, and those in β and ξ and in β and ζ

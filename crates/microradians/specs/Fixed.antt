@@ -8,7 +8,7 @@ use Rattle.polynomials.specs.Downward.{downward}
 use Rattle.layout.specs.declared.Kind.{Kind}
 use Rattle.layout.specs.Shape.{cumulus}
 use Rattle.printed.specs.Notation.{Polynomial}
-use Rattle.cumulus.specs.Model.{microradians}
+use Rattle.cumulus_page.specs.Model.{microradians}
 use Rattle.printed.specs.Stored.{printedAt}
 
 -- a number times a reading, to the nearest whole number, a half away from zero

@@ -9,7 +9,7 @@ use Rattle.polynomials.specs.Limits.{highestDegree}
 use Rattle.layout.specs.declared.Kind.{Kind}
 use Rattle.layout.specs.Shape.{cumulus, kindAt}
 use Rattle.printed.specs.Notation.{Polynomial, none}
-use Rattle.cumulus.specs.Model.{Coefficient, coefficientAt, parts}
+use Rattle.cumulus_page.specs.Model.{Coefficient, coefficientAt, parts}
 use Rattle.printed.specs.Stored.{printedAt}
 use Rattle.microradians.specs.Fixed.{perPrinted}
 

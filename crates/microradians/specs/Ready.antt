@@ -5,7 +5,7 @@ use lib.IntN.{ℤ, pos, natAbs}
 use lib.ListN.{getD}
 use Rattle.polynomials.specs.Limits.{highestDegree}
 use Rattle.layout.specs.Shape.{cumulus}
-use Rattle.cumulus.specs.Model.{microradians}
+use Rattle.cumulus_page.specs.Model.{microradians}
 
 -- no number is larger: none that is printed passes 200
 abbrev pub largest : ℕ

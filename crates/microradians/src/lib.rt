@@ -26,7 +26,7 @@ ghost use Rattle.polynomials.specs.Downward.{rowDownward, downward};
 ghost use Rattle.layout.specs.Shape.{cumulus};
 ghost use Rattle.layout.specs.Blocks.{piece as pieceOf};
 ghost use Rattle.layout.specs.Reading.{readings};
-ghost use Rattle.cumulus.specs.Model.{coefficientAt};
+ghost use Rattle.cumulus_page.specs.Model.{coefficientAt};
 ghost use Rattle.microradians.specs.Fixed.{_⊛_};
 ghost use Rattle.microradians.specs.Answer.{answerIn, fineNumber, fineOutput};
 ghost use Rattle.microradians.specs.Ready.{most, Placed, Near, AllNear};

@@ -3,7 +3,7 @@ use borrow.Author.Needs.{needs}
 use Rattle.polynomials.specs.Order.{powers, below}
 use Rattle.polynomials.specs.Sum.{listed}
 use Rattle.layout.specs.Blocks.{laidOut}
-use Rattle.gtm.specs.Published.{published}
+use Rattle.gtm_page.specs.Published.{published}
 use Rattle.gtm.proofs.publish.Statement.{statement}
 use Rattle.gtm.proofs.publish.Tie as tie
 

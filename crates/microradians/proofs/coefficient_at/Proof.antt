@@ -14,7 +14,7 @@ use Rattle.polynomials.specs.Group.{number}
 use Rattle.polynomials.specs.Downward.{downward}
 use Rattle.layout.specs.Shape.{cumulus}
 use Rattle.layout.specs.Reading.{readings}
-use Rattle.cumulus.specs.Model.{coefficientAt}
+use Rattle.cumulus_page.specs.Model.{coefficientAt}
 use Rattle.microradians.specs.Fixed.{_⊛_}
 use Rattle.microradians.specs.Groups.{groupCount, fineGroup}
 use Rattle.microradians.specs.Ready.{Placed, Near}

@@ -13,7 +13,7 @@ use Rattle.whole.specs.Nearest.{nearestAway}
 use Rattle.whole.proofs.Magnitudes.{natAbs-*}
 use Rattle.whole.proofs.Machine.{natAbs-sfits, mul-bits, mul-back}
 use Rattle.whole.proofs.Order.{lt-in}
-use Rattle.cumulus.specs.Model.{microradians}
+use Rattle.cumulus_page.specs.Model.{microradians}
 use Rattle.microradians.specs.Ready.{most}
 use Rattle.microradians.proofs.times.Statement.{statement}
 use Rattle.microradians.proofs.times.Tie as tie

@@ -12,7 +12,7 @@ use Rattle.polynomials.proofs.Listed.{listed-more, listed-all}
 use Rattle.layout.specs.Shape.{cumulus}
 use Rattle.layout.specs.Blocks.{piece as pieceOf}
 use Rattle.layout.specs.Reading.{readings}
-use Rattle.cumulus.specs.Model.{coefficientAt}
+use Rattle.cumulus_page.specs.Model.{coefficientAt}
 use Rattle.microradians.specs.Answer.{answerIn}
 use Rattle.microradians.proofs.write_answers.Statement.{statement}
 use Rattle.microradians.proofs.write_answers.Tie as tie

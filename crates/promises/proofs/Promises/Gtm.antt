@@ -22,13 +22,13 @@ use Rattle.layout.specs.Accepted.{ReadAccepted, MoveAccepted}
 use Rattle.laws.proofs.Published.{fitting, other}
 use Rattle.printed.specs.Values.{scaleIn}
 use Rattle.printed.specs.Stored.{eachBelongs, Multiple, degreeAt}
-use Rattle.gtm.specs.Model.{coefficients, parts, milliradians, modelValue}
-use Rattle.gtm.specs.Published.{published}
-use Rattle.gtm.specs.Envelope.{Envelope, farthestMove}
-use Rattle.gtm.proofs.Scaling.{published-multiples}
-use Rattle.gtm.proofs.Envelope.{sound-table, read-inside}
-use Rattle.gtm.proofs.Model.{own-variables, read-model}
-use Rattle.gtm.proofs.Moves.{move-accepted}
+use Rattle.gtm_page.specs.Model.{coefficients, parts, milliradians, modelValue}
+use Rattle.gtm_page.specs.Published.{published}
+use Rattle.gtm_page.specs.Envelope.{Envelope, farthestMove}
+use Rattle.gtm_page.proofs.Scaling.{published-multiples}
+use Rattle.gtm_page.proofs.Envelope.{sound-table, read-inside}
+use Rattle.gtm_page.proofs.Model.{own-variables, read-model}
+use Rattle.gtm_page.proofs.Moves.{move-accepted}
 use Rattle.promises.proofs.Promises.Tables.{every-model-is-well-formed, smallest-too-heavy, sound-answers-its-sum, only-sound-is-read, refused-read-writes-nothing, first-outside-is-named, other-length-is-not-read}
 use Rattle.promises.proofs.Promises.Moves.{refused-move-writes-nothing, only-sound-is-moved, move-accepted-exactly, move-past-range-exactly, move-too-heavy-exactly, move-no-other-number, move-by-nothing, moved-stays-sound, moved-answers-as-before, moves-compose, moves-restore, moves-commute, other-length-is-not-moved, no-such-variable}
 

@@ -6,7 +6,7 @@ use lib.IntN.{ℤ, pos, negℤ}
 use Rattle.layout.specs.Shape.{cumulus}
 use Rattle.layout.specs.Reading.{readings, readNumber, readOutput}
 use Rattle.laws.proofs.Refused.{read-kept}
-use Rattle.cumulus.specs.Published.{published}
+use Rattle.cumulus_page.specs.Published.{published}
 use Rattle.lines.specs.Line.{parse}
 use Rattle.lines.specs.declared.Line.the-variants.{Readings, Malformed}
 use Rattle.printing.specs.Spell.{decimal}

@@ -15,8 +15,8 @@ use Rattle.layout.specs.Limits.{lowest, highest}
 use Rattle.layout.specs.Refusals.{done, wrongOutput, outside}
 use Rattle.layout.specs.Reading.{inside, readNumber, readOutput}
 use Rattle.laws.proofs.Accepted.{same-exactly}
-use Rattle.cumulus.specs.Model.{coefficientAt, fineValue}
-use Rattle.cumulus.specs.Published.{published}
+use Rattle.cumulus_page.specs.Model.{coefficientAt, fineValue}
+use Rattle.cumulus_page.specs.Published.{published}
 use Rattle.microradians.specs.Answer.{fineLimits, fineNumber, fineOutput}
 use Rattle.microradians.proofs.Answers.{wrong-room, refused, room-number, accepted}
 use Rattle.microradians.proofs.Exact.{near-followed, near-counted, near-asked}

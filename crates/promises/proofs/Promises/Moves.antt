@@ -25,9 +25,9 @@ use Rattle.laws.proofs.SoundMoved.{moved-sound, still-range, still-light}
 use Rattle.laws.proofs.ReadingMoved.{readings-moved, readNumber-moved, readOutput-moved}
 use Rattle.laws.proofs.Refused.{move-given, move-kept, move-wrong-table, move-no-variable}
 use Rattle.laws.proofs.Accepted.{move-told, sound-limits, sound-weights, move-done-exactly, move-limit-past-exactly, move-past-cap-exactly, move-no-other}
-use Rattle.cumulus.specs.Envelope.{farthestMove}
-use Rattle.cumulus.specs.Published.{published}
-use Rattle.cumulus.proofs.Moves.{move-accepted}
+use Rattle.cumulus_page.specs.Envelope.{farthestMove}
+use Rattle.cumulus_page.specs.Published.{published}
+use Rattle.cumulus_page.proofs.Moves.{move-accepted}
 use Rattle.promises.proofs.Promises.Tables.{every-model-is-well-formed}
 
 -- What some of these ask of a shape, that of a Cumulus One table has.

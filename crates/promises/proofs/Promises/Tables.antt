@@ -30,15 +30,15 @@ use Rattle.laws.proofs.Published.{fitting, other, publish-kept}
 use Rattle.laws.proofs.Refused.{refusedReadings, read-given, read-kept, read-wrong-table, read-sound, read-done}
 use Rattle.laws.proofs.Accepted.{read-told, sound-limits, sound-weights, same-exactly}
 use Rattle.printed.specs.Stored.{eachBelongs, Multiple, degreeAt}
-use Rattle.cumulus.specs.Model.{coefficients, parts, modelValue, scale}
-use Rattle.cumulus.specs.Envelope.{Envelope}
-use Rattle.cumulus.specs.Published.{published}
-use Rattle.cumulus.specs.Checked.{asked, checked}
-use Rattle.cumulus.proofs.Length.{published-length}
-use Rattle.cumulus.proofs.Envelope.{sound-table, read-inside}
-use Rattle.cumulus.proofs.Model.{own-variables, read-model}
-use Rattle.cumulus.proofs.Scaling.{published-multiples}
-use Rattle.cumulus.proofs.Checked.{all-checked}
+use Rattle.cumulus_page.specs.Model.{coefficients, parts, modelValue, scale}
+use Rattle.cumulus_page.specs.Envelope.{Envelope}
+use Rattle.cumulus_page.specs.Published.{published}
+use Rattle.cumulus_page.specs.Checked.{asked, checked}
+use Rattle.cumulus_page.proofs.Length.{published-length}
+use Rattle.cumulus_page.proofs.Envelope.{sound-table, read-inside}
+use Rattle.cumulus_page.proofs.Model.{own-variables, read-model}
+use Rattle.cumulus_page.proofs.Scaling.{published-multiples}
+use Rattle.cumulus_page.proofs.Checked.{all-checked}
 use Rattle.door.proofs.Firsts.{first-exactly}
 
 -- What some of these ask of a shape, that of every model's tables has: the tables that the code serves.

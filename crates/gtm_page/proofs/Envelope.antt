@@ -21,8 +21,8 @@ use Rattle.layout.specs.Refusals.{done}
 use Rattle.layout.specs.Reading.{inside, readNumber}
 use Rattle.laws.proofs.Accepted.{read-done-exactly}
 use Rattle.printed.proofs.Envelope.{between, within}
-use Rattle.gtm.specs.Published.{published}
-use Rattle.gtm.specs.Envelope.{Envelope}
+use Rattle.gtm_page.specs.Published.{published}
+use Rattle.gtm_page.specs.Envelope.{Envelope}
 
 pub sound-table : SoundTable gtm published
 unfolding published laidOut listed sum powers below term evaluated totalWeight kindsLength every allInRange good groups chosen coefficient withinCap

@@ -23,10 +23,10 @@ use Rattle.laws.proofs.Refused.{read-given}
 use Rattle.printed.specs.Values.{Angles, at}
 use Rattle.printed.specs.Stored.{eachBelongs}
 use Rattle.printed.proofs.Answers.{at-⊕, held, printedIn, all-hold, held-total, values-printed}
-use Rattle.cumulus.specs.Model.{Coefficient, coefficients, parts, milliradians, pre, post, modelValue}
-use Rattle.cumulus.specs.Published.{published}
-use Rattle.cumulus.specs.Envelope.{Envelope}
-use Rattle.cumulus.proofs.Envelope.{read-inside}
+use Rattle.cumulus_page.specs.Model.{Coefficient, coefficients, parts, milliradians, pre, post, modelValue}
+use Rattle.cumulus_page.specs.Published.{published}
+use Rattle.cumulus_page.specs.Envelope.{Envelope}
+use Rattle.cumulus_page.proofs.Envelope.{read-inside}
 
 -- ════ a coefficient
 -- what the report has of it in a piece: (3) or (4)

@@ -16,8 +16,8 @@ use Rattle.layout.specs.Sound.{reach, withinCap}
 use Rattle.layout.specs.Refusals.{first}
 use Rattle.layout.specs.Reading.{readings, values, readNumber}
 use Rattle.layout.specs.Moving.{movedLimit, movedLimits, movedBlock, joined, movedTable, moveNumber}
-use Rattle.gtm.specs.Model.{milliradians}
-use Rattle.gtm.specs.Published.{published}
+use Rattle.gtm_page.specs.Model.{milliradians}
+use Rattle.gtm_page.specs.Published.{published}
 
 -- 16.634° is between 290 and 291 milliradians, for every π from 3.141 to 3.142
 boundary : map (λ π. 16_634 * π / 180_000) (3_141 ∷ 3_142 ∷ []) ≡ milliradians .cut ∷ milliradians .cut ∷ []

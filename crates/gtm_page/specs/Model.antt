@@ -7,7 +7,7 @@ use lib.Signed.{leZ}
 use Rattle.layout.specs.Shape.{gtm}
 use Rattle.printed.specs.Notation.{Polynomial, _⊕_}
 use Rattle.printed.specs.Values.{Angles, at}
-use Rattle.gtm.specs.Printed.{C-Lα-low, C-Lα-high, C-Lη, C-Dα-low, C-Dα-high, C-Dη, C-mα-low, C-mα-high, C-mη}
+use Rattle.gtm_page.specs.Printed.{C-Lα-low, C-Lα-high, C-Lη, C-Dα-low, C-Dα-high, C-Dη, C-mα-low, C-mα-high, C-mη}
 
 -- ════ the three coefficients
 pub record Coefficient : Type 0 where

@@ -7,19 +7,18 @@ use lib.IntN.{pos}
 use lib.ListN.{getD}
 use Rattle.polynomials.specs.Order.{powers, below}
 use Rattle.polynomials.specs.Sum.{listed}
-use Rattle.layout.specs.Shape.{kindsLength, limitsLength, blockLength, tableLength, gtm}
+use Rattle.layout.specs.Shape.{kindsLength, limitsLength, blockLength, tableLength, cumulus}
 use Rattle.layout.specs.Blocks.{laidOut}
 use Rattle.layout.specs.Limits.{every}
-use Rattle.printed.specs.Values.{scaleIn}
 use Rattle.printed.specs.Stored.{Multiple, degrees, degreeAt}
 use Rattle.printed.proofs.Scaling.{isMultiple, scaling}
-use Rattle.gtm.specs.Model.{milliradians}
-use Rattle.gtm.specs.Published.{published}
+use Rattle.cumulus_page.specs.Model.{milliradians, scale}
+use Rattle.cumulus_page.specs.Published.{published}
 
-tested : every (blockLength gtm * gtm .blocks) (isMultiple gtm milliradians published) ≡ true
+tested : every (blockLength cumulus * cumulus .blocks) (isMultiple cumulus milliradians published) ≡ true
 unfolding published laidOut listed powers below kindsLength degrees every
 tested = refl
 
-pub published-multiples : (k : ℕ) → limitsLength gtm ≤ k → k < tableLength gtm
-    → Multiple (scaleIn milliradians (degreeAt gtm (k - limitsLength gtm))) (getD published k (pos 0))
-published-multiples = scaling gtm milliradians published tested
+pub published-multiples : (k : ℕ) → limitsLength cumulus ≤ k → k < tableLength cumulus
+    → Multiple (scale (degreeAt cumulus (k - limitsLength cumulus))) (getD published k (pos 0))
+published-multiples = scaling cumulus milliradians published tested

@@ -8,7 +8,7 @@ use lib.Signed.{leZ}
 use Rattle.layout.specs.Shape.{cumulus}
 use Rattle.printed.specs.Notation.{Polynomial, _⊕_}
 use Rattle.printed.specs.Values.{Angles, scaleIn, at}
-use Rattle.cumulus.specs.Printed.{C-Xα-pre, C-Yα-pre, C-Zα-pre, C-lα-pre, C-mα-pre, C-nα-pre, C-Xη-pre, C-Yη-pre, C-Zη-pre, C-lη-pre, C-mη-pre, C-nη-pre, C-Xα-post, C-Yα-post, C-Zα-post, C-lα-post, C-mα-post, C-nα-post, C-Xη-post, C-Yη-post, C-Zη-post, C-lη-post, C-mη-post, C-nη-post, C-Xξ, C-Yξ, C-Zξ, C-lξ, C-mξ, C-nξ, C-Xζ, C-Yζ, C-Zζ, C-lζ, C-mζ, C-nζ}
+use Rattle.cumulus_page.specs.Printed.{C-Xα-pre, C-Yα-pre, C-Zα-pre, C-lα-pre, C-mα-pre, C-nα-pre, C-Xη-pre, C-Yη-pre, C-Zη-pre, C-lη-pre, C-mη-pre, C-nη-pre, C-Xα-post, C-Yα-post, C-Zα-post, C-lα-post, C-mα-post, C-nα-post, C-Xη-post, C-Yη-post, C-Zη-post, C-lη-post, C-mη-post, C-nη-post, C-Xξ, C-Yξ, C-Zξ, C-lξ, C-mξ, C-nξ, C-Xζ, C-Yζ, C-Zζ, C-lζ, C-mζ, C-nζ}
 
 -- ════ the six coefficients
 pub record Coefficient : Type 0 where

@@ -21,10 +21,10 @@ use Rattle.laws.proofs.Refused.{read-given}
 use Rattle.printed.specs.Values.{at}
 use Rattle.printed.specs.Stored.{eachBelongs}
 use Rattle.printed.proofs.Answers.{at-⊕, held, printedIn, all-hold, values-printed}
-use Rattle.gtm.specs.Model.{Coefficient, coefficients, parts, milliradians, modelValue}
-use Rattle.gtm.specs.Published.{published}
-use Rattle.gtm.specs.Envelope.{Envelope}
-use Rattle.gtm.proofs.Envelope.{read-inside}
+use Rattle.gtm_page.specs.Model.{Coefficient, coefficients, parts, milliradians, modelValue}
+use Rattle.gtm_page.specs.Published.{published}
+use Rattle.gtm_page.specs.Envelope.{Envelope}
+use Rattle.gtm_page.proofs.Envelope.{read-inside}
 
 pub own-variables : map (λ C. eachBelongs gtm (parts C)) coefficients ≡ replicate (gtm .blocks) (all-hold gtm)
 own-variables = refl

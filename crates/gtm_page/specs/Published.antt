@@ -5,7 +5,7 @@ use Rattle.layout.specs.Shape.{gtm}
 use Rattle.printed.specs.Values.{scaleIn}
 use Rattle.printed.specs.Stored.{blockAt}
 use Rattle.printed.specs.Envelope.{±_}
-use Rattle.gtm.specs.Model.{Coefficient, C-L, C-D, C-m, parts, milliradians}
+use Rattle.gtm_page.specs.Model.{Coefficient, C-L, C-D, C-m, parts, milliradians}
 
 -- the limits in milliradians: lowest, cut and highest of alpha, then eta
 abbrev pub publishedLimits : List ℤ

@@ -19,9 +19,9 @@ use Rattle.layout.specs.Refusals.{done}
 use Rattle.layout.specs.Moving.{moveNumber}
 use Rattle.layout.proofs.Fine.{well-formed}
 use Rattle.laws.proofs.SingleMoves.{nearEnough, single-moves}
-use Rattle.gtm.specs.Published.{published}
-use Rattle.gtm.specs.Envelope.{farthestMove}
-use Rattle.gtm.proofs.Envelope.{sound-table}
+use Rattle.gtm_page.specs.Published.{published}
+use Rattle.gtm_page.specs.Envelope.{farthestMove}
+use Rattle.gtm_page.proofs.Envelope.{sound-table}
 
 -- one computation over both variables
 tested : every (gtm .variables) (nearEnough gtm published farthestMove) ≡ true

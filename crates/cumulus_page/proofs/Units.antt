@@ -23,7 +23,7 @@ use Rattle.laws.proofs.Tests.{&&-left, &&-right, every-all, true-iff, leZ-fact,
 use Rattle.printed.specs.Notation.{Monomial, Term, Polynomial}
 use Rattle.printed.specs.Values.{Angles, totalDegree, degreeIn, monomialAt, scaleIn, scaled, at}
 use Rattle.printed.proofs.Monomials.{product-multiple}
-use Rattle.cumulus.specs.Model.{Coefficient, coefficientAt, milliradians, microradians, pre, post, modelValue, fineValue}
+use Rattle.cumulus_page.specs.Model.{Coefficient, coefficientAt, milliradians, microradians, pre, post, modelValue, fineValue}
 
 -- each term has a total degree of at most 4
 abbrev quartic : Polynomial → Bool
