@@ -34,7 +34,7 @@ use Rattle.layout.proofs.Fine.{FineKind, Fine}
 use Rattle.printed.specs.Notation.{Term, Polynomial, _⊕_}
 use Rattle.printed.specs.Values.{Angles, totalDegree, degreeIn, monomialAt, scaleIn, scaled, at, together}
 use Rattle.printed.specs.Stored.{degree, byKind, hasOnly, standsIn, printedTerm, printedAt, group, belongs, eachBelongs}
-use Rattle.printed.proofs.Monomials.{own}
+use Rattle.printed.proofs.Monomials.{monomial-own}
 
 -- ════ what is printed, and what a block holds of it
 -- polynomials that are added
@@ -96,7 +96,7 @@ module _ (S : Shape) (w : WellFormed S) (A : Angles) (x : ℕ → ℤ) where
         let e : p + q ≡ totalDegree a = eqb-true (p + q) (totalDegree a) only in
         rw only
         (sum-one room (place p q) (t .number) here (place-below (suc (k .degree)) p q (omega arith))
-        ∙ ap (λ z. t .number *ℤ z) (here-place p q ∙ ap₂ (λ n m. pos (scaleIn A n) *ℤ m) e (sym (own S w x (k .u) (k .v) (fine .first) (fine .second) (fine .apart) a e)))
+        ∙ ap (λ z. t .number *ℤ z) (here-place p q ∙ ap₂ (λ n m. pos (scaleIn A n) *ℤ m) e (sym (monomial-own S w x (k .u) (k .v) (fine .first) (fine .second) (fine .apart) a e)))
         ∙ sym (*ℤ-assoc (t .number) (pos (scaleIn A (totalDegree a))) (monomialAt S a x)))
 
     -- ════ a polynomial

@@ -1,7 +1,7 @@
 -- Monomials in the variables of a shape.
 --   others-nil        where two powers make up the total degree, every other one is 0
 --   product-two       a product in which two factors count
---   own               so a monomial that has only the variables of a group has the value of their two powers
+--   monomial-own      so a monomial that has only the variables of a group has the value of their two powers
 --   product-multiple  each factor a power of s times a reading: the powers of s come together
 use mathlib.Core.Path.{_≡_, refl, sym, _∙_, ap, ap₂}
 use mathlib.Core.List.{List, [], _∷_}
@@ -20,23 +20,23 @@ use Rattle.printed.specs.Notation.{Monomial}
 use Rattle.printed.specs.Values.{totalDegree, powerOf, product, degreeIn, monomialAt}
 
 -- ════ numbers of a list, against their sum
-abbrev together : List ℕ → ℕ
-together [] = 0
-together (a ∷ l) = a + together l
+abbrev added : List ℕ → ℕ
+added [] = 0
+added (a ∷ l) = a + added l
 
-one-within : (l : List ℕ) (i : ℕ) → getD l i 0 ≤ together l
+one-within : (l : List ℕ) (i : ℕ) → getD l i 0 ≤ added l
 one-within [] i = omega arith
 one-within (a ∷ l) zero = omega arith
 one-within (a ∷ l) (suc i) = omega (arith, one-within l i)
 
-two-within : (l : List ℕ) (i j : ℕ) → (i ≡ j → ⊥) → getD l i 0 + getD l j 0 ≤ together l
+two-within : (l : List ℕ) (i j : ℕ) → (i ≡ j → ⊥) → getD l i 0 + getD l j 0 ≤ added l
 two-within [] i j h = omega arith
 two-within (a ∷ l) zero zero h = absurd (h refl)
 two-within (a ∷ l) zero (suc j) h = omega (arith, one-within l j)
 two-within (a ∷ l) (suc i) zero h = omega (arith, one-within l i)
 two-within (a ∷ l) (suc i) (suc j) h = omega (arith, two-within l i j (λ e. h (ap suc e)))
 
-three-within : (l : List ℕ) (i j k : ℕ) → (i ≡ j → ⊥) → (i ≡ k → ⊥) → (j ≡ k → ⊥) → getD l i 0 + getD l j 0 + getD l k 0 ≤ together l
+three-within : (l : List ℕ) (i j k : ℕ) → (i ≡ j → ⊥) → (i ≡ k → ⊥) → (j ≡ k → ⊥) → getD l i 0 + getD l j 0 + getD l k 0 ≤ added l
 three-within [] i j k a b c = omega arith
 three-within (n ∷ l) zero zero k a b c = absurd (a refl)
 three-within (n ∷ l) zero (suc j) zero a b c = absurd (b refl)
@@ -77,9 +77,9 @@ module _ (f : ℕ → ℤ) where
       pick ih (no a) (no b) = ap₂ _*ℤ_ (ih (omega arith) (omega arith)) (h n (omega arith) (λ g. a (sym g)) (λ g. b (sym g))) ∙ *ℤ-unit (f u *ℤ f v)
 
 -- ════ a monomial in two variables of a shape
-pub own : (S : Shape) → WellFormed S → (x : ℕ → ℤ) (u v : ℕ) → u < S .variables → v < S .variables → (u ≡ v → ⊥) → (a : Monomial)
+pub monomial-own : (S : Shape) → WellFormed S → (x : ℕ → ℤ) (u v : ℕ) → u < S .variables → v < S .variables → (u ≡ v → ⊥) → (a : Monomial)
     → degreeIn S a u + degreeIn S a v ≡ totalDegree a → monomialAt S a x ≡ pow (x u) (degreeIn S a u) *ℤ pow (x v) (degreeIn S a v)
-own S w x u v l m d a e =
+monomial-own S w x u v l m d a e =
     product-two (λ i. pow (x i) (degreeIn S a i)) (S .variables) u v l m d (λ i b f g.
     ap (pow (x i)) (others-nil a (S .name u) (S .name v) (S .name i) (λ q. f (w .named i u b l q)) (λ q. g (w .named i v b m q)) (λ q. d (w .named u v l m q)) e) ∙ pow-zero (x i))
 

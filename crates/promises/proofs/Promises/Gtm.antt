@@ -16,8 +16,8 @@ use Rattle.layout.specs.Limits.{allInRange}
 use Rattle.layout.specs.Sound.{light, SoundTable}
 use Rattle.layout.specs.Refusals.{done, wrongTable, wrongOutput, noVariable, limitPast, moveTooHeavy, outside}
 use Rattle.layout.specs.Publishing.{publishNumber, publishOutput}
-use Rattle.layout.specs.Reading.{inside, values, readNumber, readOutput}
-use Rattle.layout.specs.Moving.{movedLimits, moveLight, moveNumber, moveOutput}
+use Rattle.layout.specs.Reading.{readings, inside, values, readNumber, readOutput}
+use Rattle.layout.specs.Moving.{movedLimits, movedState, moveLight, moveNumber, moveOutput}
 use Rattle.layout.specs.Accepted.{ReadAccepted, MoveAccepted}
 use Rattle.laws.proofs.Published.{fitting, other}
 use Rattle.printed.specs.Values.{scaleIn}
@@ -30,7 +30,7 @@ use Rattle.gtm_page.proofs.Envelope.{sound-table, read-inside}
 use Rattle.gtm_page.proofs.Model.{own-variables, read-model}
 use Rattle.gtm_page.proofs.Moves.{move-accepted}
 use Rattle.promises.proofs.Promises.Tables.{every-model-is-well-formed, smallest-too-heavy, sound-answers-its-sum, only-sound-is-read, refused-read-writes-nothing, first-outside-is-named, other-length-is-not-read}
-use Rattle.promises.proofs.Promises.Moves.{refused-move-writes-nothing, only-sound-is-moved, move-accepted-exactly, move-past-range-exactly, move-too-heavy-exactly, move-no-other-number, move-by-nothing, moved-stays-sound, moved-answers-as-before, moves-compose, moves-restore, moves-commute, other-length-is-not-moved, no-such-variable}
+use Rattle.promises.proofs.Promises.Moves.{refused-move-writes-nothing, only-sound-is-moved, move-accepted-exactly, move-past-range-exactly, move-too-heavy-exactly, move-no-other-number, move-by-nothing, moved-stays-sound, moved-answers-as-before, moved-answers-each-state, moves-compose, moves-restore, moves-commute, other-length-is-not-moved, no-such-variable}
 
 well : WellFormed gtm
 well = every-model-is-well-formed Gtm
@@ -144,6 +144,12 @@ gtm-moved-stays-sound = moved-stays-sound gtm well
 pub gtm-moved-answers-as-before : (t : List ℤ) (i : ℕ) (s : ℤ) (room : List ℤ) → moveNumber gtm t i s room ≡ done → (x : ℕ → ℤ) (out : List ℤ)
     → (readNumber gtm (moveOutput gtm t i s room) (less i s x) out ≡ readNumber gtm t x out) × (readOutput gtm (moveOutput gtm t i s room) (less i s x) out ≡ readOutput gtm t x out)
 gtm-moved-answers-as-before = moved-answers-as-before gtm well
+
+-- Said of the two numbers of a state, as `read` takes them.
+pub gtm-moved-answers-each-state : (t : List ℤ) (i : ℕ) (s : ℤ) (room : List ℤ) → moveNumber gtm t i s room ≡ done → (state out : List ℤ) → length state ≡ gtm .variables
+    → (readNumber gtm (moveOutput gtm t i s room) (readings (movedState i s state)) out ≡ readNumber gtm t (readings state) out)
+    × (readOutput gtm (moveOutput gtm t i s room) (readings (movedState i s state)) out ≡ readOutput gtm t (readings state) out)
+gtm-moved-answers-each-state = moved-answers-each-state gtm well
 
 -- Two accepted moves in one variable leave what the move by their sum leaves, where that is accepted;
 pub gtm-moves-compose : (t : List ℤ) (i : ℕ) (s r : ℤ) (a b c : List ℤ) → moveNumber gtm t i s a ≡ done → moveNumber gtm (moveOutput gtm t i s a) i r b ≡ done
