@@ -3,11 +3,12 @@ use mathlib.Core.Path.{_≡_, refl}
 use mathlib.Core.Bool.{false}
 use mathlib.Core.List.{[], _∷_, map}
 use Prim.Native.Nat.{ℕ, _≤_}
+use native.Mathlib.Omega.{arith}
 use lib.IntN.{ℤ, pos, negsuc, negℤ, natAbs, _+ℤ_, _-ℤ_, _*ℤ_, pow}
 use lib.Signed.{_≤ℤ_, _<ℤ_}
 use mir.Syntax.{w64}
 use mir.Val.{SFits}
-use Rattle.whole.specs.Nearest.{nearestAway}
+use Rattle.whole.specs.Nearest.{nearestAway, IsNearestAway}
 use Rattle.whole.proofs.Solver.{atom, lit, neglit, _⊕_, _⊝_, _⊗_, ⊖_, _↑_, same}
 use Rattle.whole.proofs.Identity.{quote, quote-pos, quote-negsuc, quote-minus, by, by-eq, ring1, ring2, ring3, ring4, ring5, ring6}
 use Rattle.whole.proofs.Linear.{zarith, quote-natAbs}
@@ -93,3 +94,14 @@ halves = refl
 thirds : map (nearestAway 3) (pos 0 ∷ pos 1 ∷ pos 2 ∷ pos 4 ∷ pos 5 ∷ negsuc 0 ∷ negsuc 1 ∷ []) ≡ pos 0 ∷ pos 0 ∷ pos 1 ∷ pos 1 ∷ pos 2 ∷ pos 0 ∷ negsuc 0 ∷ []
 unfolding nearestAway
 thirds = refl
+
+-- of the two whole numbers at a half from 1 / 2, and from -1 / 2, the one at zero is no answer
+zero-refused : IsNearestAway 2 (pos 1) (pos 0) → ⊥
+zero-refused h = omega (arith, h .away refl)
+
+zero-refused-below : IsNearestAway 2 (negsuc 0) (pos 0) → ⊥
+zero-refused-below h = omega (arith, h .away refl)
+
+-- nor is one that is more than a half from 3 / 4
+far-refused : IsNearestAway 4 (pos 3) (pos 0) → ⊥
+far-refused h = omega (arith, h .near)

@@ -9,14 +9,17 @@ use native.Mathlib.Omega.{arith}
 use lib.IntN.{ℤ, pos, natAbs, _-ℤ_, _*ℤ_}
 use lib.ListN.{length, getD}
 use lib.Signed.{_≤ℤ_}
+use Rattle.whole.specs.Nearest.{IsNearestAway}
+use Rattle.whole.proofs.Nearest.{nearest-is}
 use Rattle.layout.specs.declared.Model.the-variants.{Cumulus}
 use Rattle.layout.specs.Shape.{cumulus}
 use Rattle.layout.specs.Limits.{lowest, highest}
 use Rattle.layout.specs.Refusals.{done, wrongOutput, outside}
 use Rattle.layout.specs.Reading.{inside, readNumber, readOutput}
 use Rattle.laws.proofs.Accepted.{same-exactly}
-use Rattle.cumulus_page.specs.Model.{coefficientAt, fineValue}
+use Rattle.cumulus_page.specs.Model.{microradians, coefficientAt, fineValue}
 use Rattle.cumulus_page.specs.Published.{published}
+use Rattle.microradians.specs.Fixed.{_⊛_}
 use Rattle.microradians.specs.Answer.{fineLimits, fineNumber, fineOutput}
 use Rattle.microradians.proofs.Answers.{wrong-room, refused, room-number, accepted}
 use Rattle.microradians.proofs.Exact.{near-followed, near-counted, near-asked}
@@ -30,6 +33,10 @@ fine-inside-rule x i h =
       λ e. (subst (λ z. z ≤ℤ x i) (lowest-whole i h) (r .0 e .0), subst (λ z. x i ≤ℤ z) (highest-whole i h) (r .0 e .1)),
       λ g. r .1 (subst (λ z. z ≤ℤ x i) (sym (lowest-whole i h)) (g .0), subst (λ z. x i ≤ℤ z) (sym (highest-whole i h)) (g .1)),
     )
+
+-- Each product is rounded to the nearest unit, a half away from zero, as a reading with floats is to the nearest milliradian.
+pub fine-products-to-nearest : (a r : ℤ) → IsNearestAway (microradians .radian) (a *ℤ r) (a ⊛ r)
+fine-products-to-nearest a r = nearest-is (microradians .radian) (omega arith) (a *ℤ r)
 
 module _ (x : ℕ → ℤ) (out : List ℤ) where
   -- With room for more or fewer than six numbers: 2, and nothing is written.
