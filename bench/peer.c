@@ -3,7 +3,6 @@
  * weight rule, keep every sum and product on the way within 64 bits, so that values and moved numbers need no checks. */
 #include "groups.h"
 #include <math.h>
-#include <string.h>
 
 enum { LIMITS = 11, BLOCK = 50, BLOCKS = 6, TABLE = 311, COEFFICIENTS = 6, VARIABLES = 5 };
 enum { ALPHA, BETA, XI, ETA, ZETA };
@@ -96,15 +95,11 @@ uint64_t peer_read(const int64_t *t, size_t n, int64_t a, int64_t be, int64_t xi
     return no ? no : read_sound(t, (state){{a, be, xi, e, z}}, out);
 }
 
-/* The nearest whole number, a half to even, of a float within 2^51 of zero; of any other, a NaN and the infinities included, a
- * number that is outside all limits. Floats near 1.5 * 2^52 are 1 apart, and so are their bits. */
+/* The nearest whole number, a half away from zero, of a float within 2^51 of zero; of any other, a NaN and the infinities
+ * included, a number that is outside all limits. What is put on is the float before a half: the sum of both is below 1. */
 INLINE int64_t nearest(double f) {
-    static const double FAR = 0x1.8p52;
-    double sum = f + FAR;
-    int64_t there, zero;
-    memcpy(&there, &sum, sizeof there);
-    memcpy(&zero, &FAR, sizeof zero);
-    return there - zero;
+    double sum = f + copysign(0x1.fffffffffffffp-2, f);
+    return fabs(sum) < 0x1p51 ? (int64_t)sum : INT64_MAX;
 }
 
 clochecloak_answer peer_read_floats(const int64_t *t, size_t n, double a, double be, double xi, double e, double z) {

@@ -212,7 +212,7 @@ static int64_t draw_reading(int64_t low, int64_t high) {
 }
 
 static double draw_float(int64_t near, int64_t limit) {
-    static const double PARTS[] = {0.5, -0.5, 0.25, -0.25, 0.4999999, -0.4999999, 0x1p-30, -0x1p-30};
+    static const double PARTS[] = {0.5, -0.5, 0.25, -0.25, 0x1.fffffffffffffp-2, -0x1.fffffffffffffp-2, 0x1p-30, -0x1p-30};
     static const double ODD[] = {NAN, -NAN, INFINITY, -INFINITY, 1e300, -1e300, 0x1p51, -0x1p51, 0x1.8p52, -0x1.8p52, 0x1p53,
                                  0x1p63, -0x1p63, 0x1p64, 1e19, 0x1.fffffffffffffp51, -0x1.fffffffffffffp51, 4e-320, -4e-320};
     if (one_in(40)) return ODD[below(sizeof ODD / sizeof *ODD)];

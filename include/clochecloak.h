@@ -60,7 +60,9 @@ uint64_t clochecloak_read_microradians(int64_t alpha, int64_t beta, int64_t xi, 
                                        size_t out_count);
 
 /* The six coefficients of a Cumulus One table at a state of floats in milliradians, each first rounded to the nearest whole
- * number (half to even). Refusals 1, 3, 4, 21 to 25, 11 to 15, in this order. */
+ * number, a half away from zero: 0.5 is read as 1, -0.5 as -1. So after a move that carries a half across zero, a reading less
+ * the shift is not answered as the reading was. The answers are rounded half to even. Refusals 1, 3, 4, 21 to 25, 11 to 15, in
+ * this order. */
 clochecloak_answer clochecloak_read_floats(const int64_t *table, size_t table_count, double alpha, double beta, double xi,
                                            double eta, double zeta);
 

@@ -8,6 +8,7 @@ from fractions import Fraction
 
 import tables
 from model import CUMULUS, READING_OUTSIDE
+from roundings import half_away, half_even
 from tables import DONE, LIMITS_NOT_GOOD, TOO_HEAVY, WRONG_TABLE_LENGTH
 
 NOT_FINITE = (21, 22, 23, 24, 25)   # by variable number
@@ -39,15 +40,6 @@ def exact_value(bits):
     return -magnitude if bits & SIGN_BIT else magnitude
 
 
-def round_half_even(value):
-    """Nearest whole number of a fraction, a half going to the even one."""
-    below, rest = divmod(value.numerator, value.denominator)
-    twice = 2 * rest
-    if twice > value.denominator or (twice == value.denominator and below % 2 == 1):
-        return below + 1
-    return below
-
-
 def floor_log2(value):
     """The whole number e with 2^e <= value < 2^(e+1), for a positive fraction."""
     guess = value.numerator.bit_length() - value.denominator.bit_length()
@@ -61,7 +53,7 @@ def nearest_bits(value):
     sign = SIGN_BIT if value < 0 else 0
     magnitude = abs(value)
     exponent = max(floor_log2(magnitude), -1022)
-    significand = round_half_even(magnitude / Fraction(2) ** (exponent - 52))
+    significand = half_even(magnitude / Fraction(2) ** (exponent - 52))
     # Adding instead of joining lets a significand rounded up to the next power
     # of two carry into the exponent, and leaves subnormals with exponent 0.
     bits = ((exponent + 1022) << 52) + significand
@@ -73,7 +65,7 @@ def nearest_float_whole(number):
     magnitude = abs(number)
     excess = magnitude.bit_length() - 53
     if excess > 0:
-        magnitude = round_half_even(Fraction(magnitude, 1 << excess)) << excess
+        magnitude = half_even(Fraction(magnitude, 1 << excess)) << excess
     return -magnitude if number < 0 else magnitude
 
 
@@ -83,7 +75,7 @@ def answer_bits(number):
 
 
 def whole_reading(bits):
-    return round_half_even(exact_value(bits))
+    return half_away(exact_value(bits))
 
 
 def refused(number, handed_back):

@@ -11,6 +11,7 @@ from model import (
     ALPHA, BLOCK_COUNT, CUMULUS, EQUATIONS_OF_BLOCK, GROUPS, HIGHEST, HIGH_GROUP, LOWEST, LOW_GROUP, PRINTED, PUBLISHED_LIMITS,
     READING_OUTSIDE, READ_LENGTH, XI_GROUP, ZETA_GROUP,
 )
+from roundings import half_away
 from shapes import printed_terms
 from tables import DONE, WRONG_OUTPUT_LENGTH, first_that_holds
 
@@ -45,15 +46,9 @@ ROWS = [[rows_of(*pair) for pair in zip(equations_by_group, GROUPS)] for equatio
 
 # ------------------------------------------------------------------------ sums
 
-def nearest(exact):
-    """The nearest whole number, a half away from zero."""
-    size = (2 * abs(exact.numerator) + exact.denominator) // (2 * exact.denominator)
-    return -size if exact.numerator < 0 else size
-
-
 def times(number, reading):
     """One multiplication and its rounding."""
-    return nearest(Fraction(number * reading, RADIAN)) if number and reading else 0
+    return half_away(Fraction(number * reading, RADIAN)) if number and reading else 0
 
 
 def downward(numbers, reading):

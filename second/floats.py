@@ -1,5 +1,5 @@
-"""Sections of reads with floats: the checked values 12 and 13, special patterns, every kind of NaN, every limit and its halves, and
-drawn readings of published, moved, random, damaged and unsound tables."""
+"""Sections of reads with floats: the checked values 12 and 13, halves of readings and of answers, special patterns, every kind of NaN,
+every limit and its halves, and drawn readings of published, moved, random, damaged and unsound tables."""
 
 from fractions import Fraction
 
@@ -8,21 +8,50 @@ from makers import (
     INFINITY, QUIET, QUIET_NAN, SPECIAL_BITS, ZEROS, bits_of_ratio, bits_of_whole, damage, good_limits, inside_float_state, nudge,
     one_in_each_block, random_table, spoil_limits, with_reading,
 )
-from model import CUMULUS, HIGHEST, LOWEST, PUBLISHED_TABLE
+from model import CUMULUS, FIRST_BLOCK, HIGHEST, LOWEST, PUBLISHED_LIMITS, PUBLISHED_TABLE
 from shapes import ALPHA_CUT
 
 SIGNS = (0, SIGN_BIT)
 LARGEST_PAYLOAD = QUIET - 1
 
 
+def bits_of(decimal):
+    return nearest_bits(Fraction(decimal))
+
+
 def checked_values(script, _):
     script.published(0)
     script.comment("12")
-    for alpha in ("0.5", "1.5", "2.5", "1000.5", "1000.6"):
-        script.floats(0, with_reading(0, nearest_bits(Fraction(alpha))))
-    script.floats(0, [nearest_bits(Fraction(2000)), 0, 0, 0, QUIET_NAN])
+    for alpha in ("0.5", "-0.5", "1.5", "2.5", "1000.5", "1000.6"):
+        script.floats(0, with_reading(0, bits_of(alpha)))
+    script.floats(0, [bits_of("2000"), 0, 0, 0, QUIET_NAN])
     script.comment("13")
     script.floats(0, ZEROS)
+
+
+def worked_halves(script, _):
+    """Halves on either side of zero and of the limits, and the floats next to a half."""
+    script.published(0)
+    for alpha in ("-1.5", "-2.5", "0.49999999999999994", "-0.49999999999999994", "0.5000000000000001", "-0.5000000000000001",
+                  "999.5", "-149.5", "-150.5"):
+        script.floats(0, with_reading(0, bits_of(alpha)))
+    script.floats(0, [bits_of(reading) for reading in ("2.5", "-2.5", "0.5", "-0.5", "1.5")])
+    script.floats(0, [0, 0, 0, bits_of("-400.5"), QUIET_NAN])
+    script.comment("a half carried across zero by a move: the reading less the shift is read on its own side")
+    script.copy(0, 1)
+    script.move(0, 0, 1, 1)
+    for alpha in ("0.5", "1.5"):
+        script.floats(0, with_reading(0, bits_of(alpha)))
+        script.floats(1, with_reading(0, nearest_bits(Fraction(alpha) - 1)))
+
+
+def halves_of_answers(script, _):
+    """Whole answers that lie half-way between two floats, and beside one; of both signs."""
+    script.limits(0, PUBLISHED_LIMITS)
+    for answer in (2**53 - 1, 2**53 + 1, 2**53 + 2, 2**53 + 3, 2**62 + 512, 2**62 + 513, 2**62 + 1536):
+        for sign in (1, -1):
+            script.set(0, FIRST_BLOCK, sign * answer)
+            script.floats(0, ZEROS)
 
 
 def special_patterns(script, _):
@@ -114,6 +143,8 @@ def near_the_cap(script, gen):
 
 SECTIONS = (
     ("Checked values 12 and 13", checked_values),
+    ("Worked halves", worked_halves),
+    ("Halves of answers", halves_of_answers),
     ("Special patterns", special_patterns),
     ("Every kind of NaN", every_kind_of_nan),
     ("Floats at the limits and their halves", limits_and_halves),

@@ -22,6 +22,7 @@ from makers import (
     inside_state, last_accepted, move_factor_at, one_in_each_block, random_table, rest_of_cap, shifted, with_reading,
 )
 from model import BLOCK_COUNT, CUMULUS, EQUATIONS_OF_BLOCK, FIRST_BLOCK, GROUPS, PRINTED, PUBLISHED_TABLE
+from roundings import half_away, half_even
 from script import Script
 from shapes import parse_polynomial
 from wrong import replaced
@@ -172,14 +173,24 @@ def check_values_10_and_11():
 
 
 def check_values_12_and_13():
-    for reading, whole in ((0.5, 0), (1.5, 2), (2.5, 2), (1000.5, 1000)):
+    for reading, whole in ((0.5, 1), (-0.5, -1), (1.5, 2), (2.5, 3), (0.49999999999999994, 0)):
         number, answers, back = float_read(reading)
         exact = read(T, with_reading(0, whole))[1]
         assert number == 0 and back == 0
         assert answers == [door.answer_bits(a) for a in exact]
-    assert float_read(1000.6) == (11, [0] * 6, bits_of_float(1000.6))
+    for reading in (1000.5, 1000.6, -150.5):
+        assert float_read(reading) == (11, [0] * 6, bits_of_float(reading))
     assert float_read(2000.0, 0.0, 0.0, 0.0, float("nan")) == (25, [0] * 6, 0)
+    assert float_read(0.0, 0.0, 0.0, -400.5, float("nan")) == (25, [0] * 6, 0)
     assert float_read()[1][X] == bits_of_float(-0.02566)
+
+
+def check_worked_halves():
+    """The bits that were worked out for the request to round halves away from zero."""
+    for reading, x in ((0.5, 0xBF99B03A224144AD), (-0.5, 0xBF9ADC37FA196D84), (0.49999999999999994, 0xBF9A469D7342EDBB)):
+        assert float_read(reading)[1][X] == x
+    assert float_read(2.5, -2.5, 0.5, -0.5, 1.5)[1] == [
+        0xBF988C805397BCAA, 0x3FABACEC5B99348F, 0xBFD745B91E99C578, 0x3FA87D64852D9E37, 0x3FAD8FB5AECA2C15, 0x3FA7F08144DB2792]
 
 
 def check_nearest(bits, exact):
@@ -204,8 +215,6 @@ def check_rounding():
     assert door.nearest_bits(smallest / 2) == 0
     assert door.nearest_bits(smallest * 3 / 2) == 2
     assert door.nearest_bits(Fraction(2) ** 1024) == 0x7FF0000000000000
-    for half, whole in ((-5, -2), (-3, -2), (-1, 0), (1, 0), (3, 2), (5, 2)):
-        assert door.round_half_even(Fraction(half, 2)) == whole
     for number, whole in ((2**53 + 1, 2**53), (2**53 + 3, 2**53 + 4),
                           (-(2**53) - 1, -(2**53)), (2**54 - 1, 2**54),
                           (2**62 + 512, 2**62), (2**62 + 513, 2**62 + 1024)):
@@ -363,7 +372,7 @@ def check_float_reads():
     gen = Generator(103)
     for _ in range(200):
         state = inside_float_state(gen, T)
-        wholes = [door.round_half_even(door.exact_value(bits)) for bits in state]
+        wholes = [half_away(door.exact_value(bits)) for bits in state]
         number, answers, back = door.read_floats(T, state)
         expected, exact = read(T, wholes)
         assert number == expected and back == (state[number - 11] if number else 0)
@@ -404,22 +413,23 @@ def check_whole_milliradians():
             assert abs(fine * 10**8 - answer) <= 691 * 10**6
 
 
-def check_nearest_in_microradians():
+def check_two_roundings():
     for thirds, whole in ((-5, -2), (-4, -1), (-2, -1), (-1, 0), (0, 0), (1, 0), (2, 1), (4, 1), (5, 2)):
-        assert fixed_point.nearest(Fraction(thirds, 3)) == whole
-    for half, whole in ((-5, -3), (-3, -2), (-1, -1), (1, 1), (3, 2), (5, 3)):
-        assert fixed_point.nearest(Fraction(half, 2)) == whole
+        assert half_away(Fraction(thirds, 3)) == half_even(Fraction(thirds, 3)) == whole
+    for half, away, even in ((-5, -3, -2), (-3, -2, -2), (-1, -1, 0), (1, 1, 0), (3, 2, 2), (5, 3, 2)):
+        assert half_away(Fraction(half, 2)) == away
+        assert half_even(Fraction(half, 2)) == even
 
 
 def products_on_the_way(block, state):
     """The exact products of one coefficient's read in microradians, before each is rounded."""
-    right, products = fixed_point.nearest, []
+    products = []
 
     def kept_and_rounded(exact):
         products.append(exact)
-        return right(exact)
+        return half_away(exact)
 
-    with replaced([(fixed_point, "nearest", kept_and_rounded)]):
+    with replaced([(fixed_point, "half_away", kept_and_rounded)]):
         fixed_point.coefficient(block, state)
     return products
 
@@ -470,11 +480,11 @@ def check_boundary_of_the_gtm():
     assert 290 < turn * 1000 * Fraction("3.14159") < turn * 1000 * Fraction("3.1416") < 291
     boundary = [turn * Fraction("3.14159265"), 0]
     for block, due, unit in ((LIFT, 8, 10**4), (DRAG, -7, 10**5), (PITCH, 3, 10**4)):
-        assert door.round_half_even(gap(block, boundary) * unit) == due
+        assert half_even(gap(block, boundary) * unit) == due
     # with the numbers of the damaged line they would not
     for powers, wrong, due in (((0, 0), "-0.029", 58), ((2, 0), "2.304", 5)):
         damaged = {**GTM_TERMS, "98 low": {**GTM_TERMS["98 low"], powers: Fraction(wrong)}}
-        assert door.round_half_even(abs(gap(DRAG, boundary, damaged)) * 1000) == due
+        assert half_even(abs(gap(DRAG, boundary, damaged)) * 1000) == due
 
 
 def check_published_reads_of_the_gtm():
@@ -584,9 +594,9 @@ def check_desk():
 
 CHECKS = (
     check_printed_text, check_published_reads, check_values_1_to_7, check_values_8_and_9, check_values_10_and_11,
-    check_values_12_and_13, check_exact_values, check_rounding, check_drawn_rounding, check_promised_moves, check_moves,
+    check_values_12_and_13, check_worked_halves, check_exact_values, check_rounding, check_drawn_rounding, check_promised_moves, check_moves,
     check_refusal_order, check_tables_at_cap, check_moves_at_cap, check_float_reads, check_examples_in_microradians,
-    check_errors_in_microradians, check_whole_milliradians, check_nearest_in_microradians, check_halves_in_microradians,
+    check_errors_in_microradians, check_whole_milliradians, check_two_roundings, check_halves_in_microradians,
     check_printed_text_of_the_gtm, check_boundary_of_the_gtm, check_published_reads_of_the_gtm, check_worked_values_of_the_gtm,
     check_sizes_of_the_gtm, check_other_shape, check_line_program, check_draws, check_desk,
 )

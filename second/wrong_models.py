@@ -6,7 +6,7 @@ look right come first.
 
 from fractions import Fraction
 from functools import lru_cache
-from math import floor
+from math import ceil, floor
 
 import desk
 import door
@@ -16,6 +16,7 @@ from door import POSITIVE_ZERO, SIGN_BIT
 from draws import I64_MIN, MASK, signed
 from makers import places_of_block
 from model import ALPHA, BETA, CUMULUS, ETA, READING_OUTSIDE, READ_LENGTH, TABLE_LENGTH, XI_GROUP, ZETA_GROUP
+from roundings import half_away, half_even
 from shapes import ALPHA_CUT, HIGH_GROUP, LOW_GROUP, PIECES
 
 # The right functions, for wrong ones that differ from them in one respect.
@@ -40,7 +41,6 @@ right_whole = desk.whole
 right_fine_is_outside = fixed_point.is_outside
 right_fine_read = fixed_point.read
 right_group_sum = fixed_point.group_sum
-right_nearest = fixed_point.nearest
 right_six_answers = fixed_point.six_answers
 
 
@@ -292,9 +292,28 @@ def low_half(number):
 
 # --------------------------------------------------------------------- floats
 
-def halves_away(value):
-    rounded = int(abs(value) + Fraction(1, 2))
-    return -rounded if value < 0 else rounded
+def reading_rounded(rounding):
+    return in_door("whole_reading", lambda bits: rounding(door.exact_value(bits)))
+
+
+def half_up(exact):
+    return floor(exact + Fraction(1, 2))
+
+
+def half_towards_zero(exact):
+    whole = ceil(abs(exact) - Fraction(1, 2))
+    return -whole if exact < 0 else whole
+
+
+def sum_cut_down(bits):
+    """Half is put on in binary64, which rounds the sum, and the sum is cut down."""
+    return floor(door.exact_value(door.nearest_bits(door.exact_value(bits) + Fraction(1, 2))))
+
+
+def magnitude_sum_cut(bits):
+    """The same with the magnitude, and the sign put back."""
+    whole = sum_cut_down(bits & ~SIGN_BIT)
+    return -whole if bits & SIGN_BIT else whole
 
 
 def piece_before_rounding(table, reading_bits):
@@ -343,27 +362,23 @@ def interleaved(first, second):
 
 # --------------------------------------------------------------- microradians
 
-def half_up(exact):
-    return floor(exact + Fraction(1, 2))
-
-
 def exact_product(number, reading):
     return Fraction(number * reading, fixed_point.RADIAN)
 
 
 def rounded_at_the_end(readings):
-    return [right_nearest(answer) for answer in right_six_answers(readings)]
+    return [half_away(answer) for answer in right_six_answers(readings)]
 
 
 def rounded_by_group(rows, first, second):
-    return right_nearest(right_group_sum(rows, first, second))
+    return half_away(right_group_sum(rows, first, second))
 
 
 def rounded_once_added(numbers, reading):
     """A product is rounded together with the number that is added to it."""
     total = 0
     for number in reversed(numbers):
-        total = right_nearest(exact_product(total, reading) + number)
+        total = half_away(exact_product(total, reading) + number)
     return total
 
 
@@ -387,11 +402,11 @@ def pieces_exchanged(alpha):
 
 
 def in_larger_units(readings):
-    return [right_nearest(Fraction(answer, 10)) for answer in right_six_answers(readings)]
+    return [half_away(Fraction(answer, 10)) for answer in right_six_answers(readings)]
 
 
 def rounded_to_milliradians(readings):
-    return right_six_answers([1000 * right_nearest(Fraction(reading, 1000)) for reading in readings])
+    return right_six_answers([1000 * half_away(Fraction(reading, 1000)) for reading in readings])
 
 
 def fine_ends_excluded(variable, reading):
@@ -552,10 +567,13 @@ MODELS = (
     Wrong("not finite asked reading by reading", "Mixed defects of reads with floats", "floats",
           in_door("DOOR_ORDER", (1, 3, 4) + interleaved(door.NOT_FINITE, READING_OUTSIDE))),
     # floats
-    Wrong("halves rounded away from zero", "Checked values 12 and 13", "floats",
-          in_door("whole_reading", lambda bits: halves_away(door.exact_value(bits)))),
-    Wrong("readings cut off and not rounded", "Floats at the limits and their halves", "floats",
-          in_door("whole_reading", lambda bits: int(door.exact_value(bits)))),
+    Wrong("halves of readings to even", "Checked values 12 and 13", "floats", reading_rounded(half_even)),
+    Wrong("halves of readings up", "Checked values 12 and 13", "floats", reading_rounded(half_up)),
+    Wrong("halves of readings towards zero", "Checked values 12 and 13", "floats", reading_rounded(half_towards_zero)),
+    Wrong("half put on as a float and cut down", "Special patterns", "floats", in_door("whole_reading", sum_cut_down)),
+    Wrong("half put on the magnitude as a float and cut off", "Special patterns", "floats", in_door("whole_reading", magnitude_sum_cut)),
+    Wrong("halves of answers away from zero", "Halves of answers", "floats", in_door("half_even", half_away)),
+    Wrong("readings cut off and not rounded", "Floats at the limits and their halves", "floats", reading_rounded(int)),
     Wrong("the piece chosen before rounding", "Floats at the limits and their halves", "floats",
           in_door("six_answers", piece_before_rounding)),
     Wrong("outside asked before rounding", "Floats at the limits and their halves", "floats",
@@ -576,10 +594,10 @@ MODELS = (
     Wrong("products rounded once the next number is added", "Microradians with products at a half", "microradians",
           in_fixed_point("downward", rounded_once_added)),
     Wrong("products with halves to even", "Microradians with products at a half", "microradians",
-          in_fixed_point("nearest", door.round_half_even)),
-    Wrong("products with halves up", "Microradians with products at a half", "microradians", in_fixed_point("nearest", half_up)),
-    Wrong("products rounded down", "Drawn microradians", "microradians", in_fixed_point("nearest", floor)),
-    Wrong("products cut off", "Drawn microradians", "microradians", in_fixed_point("nearest", int)),
+          in_fixed_point("half_away", half_even)),
+    Wrong("products with halves up", "Microradians with products at a half", "microradians", in_fixed_point("half_away", half_up)),
+    Wrong("products rounded down", "Drawn microradians", "microradians", in_fixed_point("half_away", floor)),
+    Wrong("products cut off", "Drawn microradians", "microradians", in_fixed_point("half_away", int)),
     Wrong("the first variable outside", "Drawn microradians", "microradians", in_fixed_point("group_sum", first_variable_outside)),
     Wrong("summed from the lowest power up", "Drawn microradians", "microradians", in_fixed_point("downward", upward)),
     Wrong("answers in units of 10^-8", "Worked examples in microradians", "microradians", in_fixed_point("six_answers", in_larger_units)),

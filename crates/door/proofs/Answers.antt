@@ -1,7 +1,6 @@
 -- What the contract of the door says, in the words of the paper. The contract gives every answer by `doorAnswer`, whose parts these are.
 --   number-told        the number, by the tests in their order
 --   number-read, value-read   five finite readings are answered as the whole-number read of the rounded readings
---   rounded-nearest    each reading is rounded to the nearest whole number, a half to the even one
 --   zero-on-refusal    the six on a refusal
 --   reading-step, reading-elsewhere   the place that hands a reading back
 --   value-number, reading-number   none of the seven floats is a NaN
@@ -30,10 +29,7 @@ use Rattle.layout.specs.Reading.{inside, pieceAt, values, readNumber, readOutpu
 use Rattle.laws.proofs.Refused.{read-given, read-kept}
 use Rattle.limits.proofs.Firsts.{first-past, first-none, first-at}
 use Rattle.tables.proofs.Steps.{first-apart}
-use Rattle.rounding.specs.Value.{numerator, denominator}
-use Rattle.rounding.specs.Nearest.{IsNearest}
 use Rattle.rounding.specs.Answer.{floatOf}
-use Rattle.rounding.proofs.Nearest.{reading-nearest}
 use Rattle.rounding.specs.declared.Step.the-variants.{Outside}
 use Rattle.rounding.proofs.Answers.{zero-positive, never-nan}
 use Rattle.door.specs.declared.Answer.{Answer}
@@ -89,10 +85,6 @@ module _ (t : List ℤ) (x : ℕ → Float) where
   unfolding doorNumber first
   number-told =
       ap (λ n. cond (not (eqb (length t) (tableLength cumulus))) wrongTable (cond (not (good cumulus t)) badLimits (cond (not (light cumulus t)) tooHeavy n))) (tested (cumulus .variables))
-
-  -- Each finite reading is rounded to a whole number within a half of its exact value, which is even where it lies just a half away.
-  pub rounded-nearest : (i : ℕ) → IsNearest (numerator (x i)) (denominator (x i)) (roundedAll x i)
-  rounded-nearest i = reading-nearest (x i)
 
   -- six zeros, as the whole-number read is given them
   abbrev zeros : List ℤ

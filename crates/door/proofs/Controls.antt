@@ -5,6 +5,7 @@ use Prim.Native.Nat.{ℕ}
 use lib.IntN.{ℤ, pos, negsuc, pow, one}
 use lib.ListN.{replicate}
 use lib.Ieee.{Float, binary64, ofBits}
+use Rattle.whole.specs.Nearest.{nearestAway}
 use Rattle.polynomials.specs.Sum.{sum, listed}
 use Rattle.polynomials.specs.Order.{powers, below}
 use Rattle.polynomials.specs.Group.{term, evaluated}
@@ -14,7 +15,6 @@ use Rattle.layout.specs.Limits.{every, allInRange, good}
 use Rattle.layout.specs.Blocks.{groups, chosen, coefficient}
 use Rattle.layout.specs.Sound.{withinCap}
 use Rattle.layout.specs.Refusals.{first}
-use Rattle.rounding.specs.Nearest.{rounded, nearestWhole}
 use Rattle.rounding.specs.Reading.{wholeOf, stepOf}
 use Rattle.rounding.specs.Answer.{floatOf}
 use Rattle.door.specs.Steps.{positiveZero}
@@ -28,11 +28,11 @@ table =
     ++ (pos 8 ∷ replicate 289 (pos 0))
 
 unfoldable number : List ℕ → ℕ
-unfolding table ofBits rounded nearestWhole wholeOf stepOf sum listed powers below term evaluated totalWeight kindsLength every allInRange good groups chosen coefficient withinCap first doorNumber
+unfolding table ofBits nearestAway wholeOf stepOf sum listed powers below term evaluated totalWeight kindsLength every allInRange good groups chosen coefficient withinCap first doorNumber
 number l = doorNumber cumulus table (floats (map (ofBits binary64) l))
 
 unfoldable back : List ℕ → Float
-unfolding table ofBits rounded nearestWhole wholeOf stepOf number doorReading
+unfolding table ofBits nearestAway wholeOf stepOf number doorReading
 back l = doorReading cumulus table (floats (map (ofBits binary64) l))
 
 -- a NaN zeta with alpha 2000.0: the NaN comes first, and no reading is handed back
@@ -53,8 +53,16 @@ both-outside-back : back (0x408f_4800_0000_0000 ∷ 0x407f_5000_0000_0000 ∷ 0 
 unfolding number back
 both-outside-back = refl
 
--- beta 500.5 is rounded to 500, and zeta -500.6 to -501
-beta-rounded : number (0 ∷ 0x407f_4800_0000_0000 ∷ 0 ∷ 0 ∷ 0 ∷ []) ≡ 0
+-- alpha 1000.5 is rounded to 1001 and handed back as given, beta 499.5 to 500, and zeta -500.6 to -501
+alpha-half-outside : number (0x408f_4400_0000_0000 ∷ 0 ∷ 0 ∷ 0 ∷ 0 ∷ []) ≡ 11
+unfolding number
+alpha-half-outside = refl
+
+alpha-half-back : back (0x408f_4400_0000_0000 ∷ 0 ∷ 0 ∷ 0 ∷ 0 ∷ []) ≡ ofBits binary64 0x408f_4400_0000_0000
+unfolding number back
+alpha-half-back = refl
+
+beta-rounded : number (0 ∷ 0x407f_3800_0000_0000 ∷ 0 ∷ 0 ∷ 0 ∷ []) ≡ 0
 unfolding number
 beta-rounded = refl
 
@@ -62,7 +70,12 @@ zeta-outside : number (0 ∷ 0 ∷ 0 ∷ 0 ∷ 0xc07f_4999_9999_999a ∷ []) ≡
 unfolding number
 zeta-outside = refl
 
+-- a NaN zeta with eta -400.5, which is outside
+nan-beside-half : number (0 ∷ 0 ∷ 0 ∷ 0xc079_0800_0000_0000 ∷ 0x7ff8_0000_0000_0000 ∷ []) ≡ 25
+unfolding number
+nan-beside-half = refl
+
 -- alpha 313.4 is rounded to 313 and read in the low piece, 313.6 to 314 and read in the high one
 pieces : map (λ alpha. doorValue cumulus table (floats (map (ofBits binary64) (alpha ∷ 0 ∷ 0 ∷ 0 ∷ 0 ∷ []))) 0) (0x4073_9666_6666_6666 ∷ 0x4073_9999_9999_999a ∷ []) ≡ floatOf (pos 7) ∷ floatOf (pos 8) ∷ []
-unfolding table ofBits rounded nearestWhole wholeOf stepOf sum listed powers below term evaluated total totalWeight kindsLength every allInRange good groups chosen coefficient withinCap first doorNumber doorValue pow one
+unfolding table ofBits nearestAway wholeOf stepOf sum listed powers below term evaluated total totalWeight kindsLength every allInRange good groups chosen coefficient withinCap first doorNumber doorValue pow one
 pieces = refl

@@ -24,7 +24,7 @@ use Rattle.door.specs.declared.Answer.{Answer}
 abbrev pub floats : List Float → ℕ → Float
 floats x i = getD x i nan
 
--- each rounded to the nearest whole number, a half to the even one
+-- each rounded to the nearest whole number, a half away from zero
 abbrev pub roundedAll : (ℕ → Float) → ℕ → ℤ
 roundedAll x i = wholeOf (x i)
 

@@ -150,7 +150,7 @@ fn answered(table: &[i64], piece: usize, state: [i64; VARIABLES]) -> Answer
 }
 
 // Reads the six coefficients of a table at a state of five floats in milliradians, each rounded to the nearest whole number
-// (half to even) before anything else looks at it; or refuses, with six zeros.
+// (half away from zero) before anything else looks at it; or refuses, with six zeros.
 pub fn read_floats(table: &[i64], readings: [f64; VARIABLES]) -> Answer
     ensures { λ r. ⌜ r ≡ doorAnswer (now (table .entry)) (floats readings) ⌝ }
 {

@@ -1,6 +1,6 @@
 -- A comparison of floats as one of exact fractions, for floats that are finite and above zero, `positive` in the kit's model.
---   lt-value, gt-value   with a float of the value a / c
---   halves               n halves, as a float
+--   lt-value   with a float of the value a / c
+--   halves     n halves, as a float
 use mathlib.Core.Path.{_≡_, refl, sym, ap, ap₂, _∙_, subst}
 use mathlib.Core.Bool.{Bool, true, false}
 use Prim.Native.Nat.{ℕ, _*_, _+_, _^_, _<_}
@@ -49,11 +49,6 @@ module _ (x y : Float) (a c : ℕ) (p : T (positive x)) (q : T (positive y)) (C 
   lt-value =
       lt-cross x y p q ∙ sym (ltb-scale (num x * den y) (num y * den x) c C) ∙ ap₂ ltb left right
       ∙ ltb-scale (num x * c) (a * den x) (den y) (den-pos y)
-
-  pub gt-value : lt y x ≡ ltb (a * den x) (num x * c)
-  gt-value =
-      lt-cross y x q p ∙ sym (ltb-scale (num y * den x) (num x * den y) c C) ∙ ap₂ ltb right left
-      ∙ ltb-scale (a * den x) (num x * c) (den y) (den-pos y)
 
 -- ════ halves
 -- 4602678819172646912 are the bits of 0.5, and 2 ^ 1074 of the smallest float make 1

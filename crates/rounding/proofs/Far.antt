@@ -15,14 +15,14 @@ use lib.Ieee.Scale.{finite}
 use borrow.Author.Tests.{ltb-true, ltb-false}
 use Rattle.whole.proofs.Identity.{quote-pos, quote-minus, ring1}
 use Rattle.whole.proofs.Linear.{zarith, quote-natAbs}
-use Rattle.rounding.specs.Nearest.{rounded, nearestWhole}
+use Rattle.whole.specs.Nearest.{nearestUp, nearestAway}
 use Rattle.rounding.specs.Reading.{wholeOf}
 use Rattle.rounding.specs.Ready.{farthestEnd, farthestNear, Near}
 use Rattle.rounding.proofs.Sides.{whole-part-le}
 use Rattle.rounding.proofs.Signs.{nearest-neg}
 
-beyond : (a b : ℕ) → 0 < b → farthestNear * b < a → farthestNear ≤ rounded a b
-beyond a b p h = le-trans (le-div-iff-mul-le p .1 (let g : farthestNear * b ≤ a = omega arith in g)) (whole-part-le a b)
+beyond : (a b : ℕ) → 0 < b → farthestNear * b < a → farthestNear ≤ nearestUp b a
+beyond a b p h = le-trans (le-div-iff-mul-le p .1 (let g : farthestNear * b ≤ a = omega arith in g)) (whole-part-le a b p)
 
 past-highest : (z : ℤ) (r : ℕ) → natAbs z ≤ farthestEnd → farthestNear ≤ r → z <ℤ pos r
 past-highest z r = ring1 z (λ ρ e. simp (quote-pos ρ, e, quote-natAbs) (omega zarith))
@@ -31,12 +31,12 @@ past-lowest : (z : ℤ) (r : ℕ) → natAbs z ≤ farthestEnd → farthestNear 
 past-lowest z r = ring1 z (λ ρ e. simp (quote-minus ρ, e, quote-natAbs) (omega zarith))
 
 pub far-above : (x : Float) (z : ℤ) → natAbs z ≤ farthestEnd → T (finite x) → lt (fin false farthestNear (pos 0)) x ≡ true → z <ℤ wholeOf x
-unfolding lt wholeOf nearestWhole
+unfolding lt wholeOf nearestAway
 far-above nan z l f h = absurd f
 far-above (inf s) z l f h = absurd f
 far-above (fin true m e) z l f h = absurd (false≢true h)
 far-above (fin false m e) z l f h =
-    past-highest z (rounded (m * up e) (down e)) l
+    past-highest z (nearestUp (down e) (m * up e)) l
     (beyond (m * up e) (down e) (down-pos e) (omega (arith, ltb-true)))
 
 pub far-below : (x : Float) (z : ℤ) → natAbs z ≤ farthestEnd → T (finite x) → lt x (fin true farthestNear (pos 0)) ≡ true → wholeOf x <ℤ z
@@ -47,7 +47,7 @@ far-below (fin false m e) z l f h = absurd (false≢true h)
 far-below (fin true m e) z l f h =
     let a : farthestNear * down e < m * up e = omega (arith, ltb-true) in
     rw (nearest-neg (m * up e) (down e) (omega arith))
-    (past-lowest z (rounded (m * up e) (down e)) l (beyond (m * up e) (down e) (down-pos e) a))
+    (past-lowest z (nearestUp (down e) (m * up e)) l (beyond (m * up e) (down e) (down-pos e) a))
 
 pub near : (x : Float) → T (finite x) → lt x (fin true farthestNear (pos 0)) ≡ false → lt (fin false farthestNear (pos 0)) x ≡ false → Near x
 unfolding lt

@@ -1,6 +1,6 @@
 -- The laws of rounding.
 --   Sides        a magnitude rounded, by the side of a half that it lies on
---   Nearest      the nearest whole number is within a half and even at a half, and is the only such number
+--   Nearest      what a float is read as is the nearest whole number, told of its exact value
 --   Comparisons  a comparison of floats as one of exact fractions
 --   Signs        a reading by its sign
 --   Far          a reading that is too far from 0 for any limits

@@ -13,13 +13,13 @@ use lib.Ieee.{Float, nan, inf, fin, up, down, lt, neg}
 use lib.Ieee.Fits.{down-pos}
 use lib.Ieee.Positive.{num, den, positive, first-pos}
 use borrow.Author.Tests.{ltb-true, ltb-false}
-use Rattle.rounding.specs.Nearest.{rounded, nearestWhole}
+use Rattle.whole.specs.Nearest.{nearestUp, nearestAway}
+use Rattle.whole.proofs.Nearest.{up-within}
 use Rattle.rounding.specs.Reading.{wholeOf}
 use Rattle.rounding.specs.Ready.{farthestNear, Near}
-use Rattle.rounding.proofs.Sides.{rounded-nil}
 
-pub nearest-neg : (a b : ℕ) → 0 < a → nearestWhole (negℤ (pos a)) b ≡ negℤ (pos (rounded a b))
-unfolding nearestWhole
+pub nearest-neg : (a b : ℕ) → 0 < a → nearestAway b (negℤ (pos a)) ≡ negℤ (pos (nearestUp b a))
+unfolding nearestAway
 nearest-neg zero b p = absurd (omega arith)
 nearest-neg (suc a) b p = refl
 
@@ -30,7 +30,7 @@ origin = fin false 0 (pos 0)
 pub record Below (x : Float) : Type 0 where
   pub turned : T (positive (neg x))
   pub small : num (neg x) ≤ farthestNear * den (neg x)
-  pub is : negℤ (pos (rounded (num (neg x)) (den (neg x)))) ≡ wholeOf x
+  pub is : negℤ (pos (nearestUp (den (neg x)) (num (neg x)))) ≡ wholeOf x
 
 pub below-zero : (x : Float) → Near x → lt x origin ≡ true → Below x
 unfolding lt neg wholeOf
@@ -51,17 +51,17 @@ positive-of (fin false m e) n h =
     let p : 0 < m * up e = omega (arith, ltb-true) in
     lt→ltb 0 m (first-pos m (up e) p)
 
-pub above-zero : (x : Float) → T (positive x) → pos (rounded (num x) (den x)) ≡ wholeOf x
-unfolding wholeOf nearestWhole
+pub above-zero : (x : Float) → T (positive x) → pos (nearestUp (den x) (num x)) ≡ wholeOf x
+unfolding wholeOf nearestAway
 above-zero nan p = absurd p
 above-zero (inf s) p = absurd p
 above-zero (fin true m e) p = absurd p
 above-zero (fin false m e) p = refl
 
 -- ════ zero
-whole-nil : (a b : ℕ) → a ≡ 0 → 0 < b → pos 0 ≡ nearestWhole (pos a) b
-unfolding nearestWhole
-whole-nil a b h p = ap pos (sym (ap (λ k. rounded k b) h ∙ rounded-nil b p))
+whole-nil : (a b : ℕ) → a ≡ 0 → 0 < b → pos 0 ≡ nearestAway b (pos a)
+unfolding nearestAway
+whole-nil a b h p = let l : nearestUp b a ≤ 0 = up-within b p a 0 (omega arith) in ap pos (omega arith)
 
 pub at-zero : (x : Float) → Near x → lt x origin ≡ false → lt origin x ≡ false → pos 0 ≡ wholeOf x
 unfolding lt wholeOf
@@ -69,7 +69,7 @@ at-zero nan n h g = absurd (n .finite)
 at-zero (inf s) n h g = absurd (n .finite)
 at-zero (fin true m e) n h g =
     let z : m * up e ≡ 0 = omega (arith, ltb-false) in
-    whole-nil 0 (down e) refl (down-pos e) ∙ ap (λ k. nearestWhole (negℤ (pos k)) (down e)) (sym z)
+    whole-nil 0 (down e) refl (down-pos e) ∙ ap (λ k. nearestAway (down e) (negℤ (pos k))) (sym z)
 at-zero (fin false m e) n h g =
     let z : m * up e ≡ 0 = omega (arith, ltb-false) in
     whole-nil (m * up e) (down e) z (down-pos e)

@@ -13,7 +13,7 @@ use lib.Signed.{leZ, _≤ℤ_, _<ℤ_, leZ-yes, clashℤ}
 use lib.Ieee.{Float, nan, inf, fin}
 use lib.Ieee.Scale.{finite}
 use Rattle.whole.proofs.Order.{≤ℤ-or-<ℤ}
-use Rattle.rounding.specs.Nearest.{rounded, nearestWhole}
+use Rattle.whole.specs.Nearest.{nearestAway}
 use Rattle.rounding.specs.Reading.{wholeOf, stepOf}
 use Rattle.rounding.specs.declared.Step.{Step}
 use Rattle.rounding.specs.declared.Step.the-variants.{Whole, NotFinite, Outside}
@@ -41,7 +41,7 @@ step-is (inf s) lowest highest = refl
 step-is (fin s m e) lowest highest = refl
 
 pub zero-step : (s : Bool) (lowest highest : ℤ) → leZ lowest (pos 0) && leZ (pos 0) highest ≡ true → stepOf (fin s 0 (pos 0)) lowest highest ≡ Whole (pos 0)
-unfolding stepOf wholeOf nearestWhole rounded
+unfolding stepOf wholeOf nearestAway
 zero-step false lowest highest e = ap (λ b. cond b (Whole (pos 0)) (Outside (fin false 0 (pos 0)))) e
 zero-step true lowest highest e = ap (λ b. cond b (Whole (pos 0)) (Outside (fin true 0 (pos 0)))) e
 

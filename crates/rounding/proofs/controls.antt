@@ -1,5 +1,4 @@
 -- Small computed facts, one file for each file of definitions, that would fail if the definition were wrong.
 pub mod Value
-pub mod Nearest
 pub mod Reading
 pub mod Answer

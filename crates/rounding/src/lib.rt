@@ -1,13 +1,13 @@
 // What a float reading is as a whole number, and what a whole answer is as a float.
 ghost use mathlib.Core.Path.{_≡_};
-ghost use mathlib.Core.Bool.{true, false};
+ghost use mathlib.Core.Bool.{false};
 ghost use Prim.Native.Nat.{_≤_, _+_, _*_};
 ghost use lib.Dec.{T};
 ghost use lib.IntN.{natAbs};
 ghost use lib.Ieee.Exact.{HasValue};
 ghost use lib.Ieee.Positive.{num, den, positive};
 ghost use lib.Ieee.Scale.{finite};
-ghost use Rattle.rounding.specs.Nearest.{tie, rounded};
+ghost use Rattle.whole.specs.Nearest.{nearestUp};
 ghost use Rattle.rounding.specs.Reading.{wholeOf, stepOf};
 ghost use Rattle.rounding.specs.Ready.{farthestEnd, farthestNear, Near};
 ghost use Rattle.rounding.specs.Answer.{floatOf};
@@ -24,14 +24,6 @@ const MOST_NEAR: f64 = 2001.0;
 
 const LEAST_NEAR: f64 = -MOST_NEAR;
 
-// q, or the next, where a magnitude lies just half-way between them: the even one.
-fn tie(q: u64) -> u64
-    requires { ⌜ q ≤ farthestNear ⌝ }
-    ensures { λ r. ⌜ r ≡ tie q ⌝ }
-{
-    q + q % 2
-}
-
 // q and a half, which an f64 holds exactly.
 fn half_above(q: u64) -> f64
     requires { ⌜ q ≤ farthestNear ⌝ }
@@ -40,23 +32,16 @@ fn half_above(q: u64) -> f64
     ((2 * q + 1) as f64) * 0.5
 }
 
-// The whole number nearest to a, by the side of the half above its whole part.
+// The whole number nearest to a, by the side of the half above its whole part; the half itself goes up.
 fn nearest_magnitude(a: f64) -> u64
     requires { ⌜ T (positive a) ⌝ ∗ ⌜ num a ≤ farthestNear * den a ⌝ }
-    ensures { λ r. ⌜ r ≡ rounded (num a) (den a) ⌝ }
+    ensures { λ r. ⌜ r ≡ nearestUp (den a) (num a) ⌝ }
 {
     let q = std::num::truncating_f64_to_u64(a);
-    let half = half_above(q);
-    if a < half {
-        q
-    } else if half < a {
-        q + 1
-    } else {
-        tie(q)
-    }
+    if a < half_above(q) { q } else { q + 1 }
 }
 
-// The whole number nearest to x, which for both zeros is 0.
+// The whole number nearest to x, a half away from zero; for both zeros it is 0.
 fn nearest_whole(x: f64) -> i64
     requires { ⌜ Near x ⌝ }
     ensures { λ r. ⌜ r ≡ wholeOf x ⌝ }

@@ -4,11 +4,12 @@ use mathlib.Core.Bool.{Bool, true, false, not, cond, _&&_}
 use mathlib.Core.List.{List, _∷_, _++_}
 use Prim.Native.Nat.{ℕ, _<_}
 use lib.Dec.{eqb}
-use lib.IntN.{ℤ, pos}
+use lib.IntN.{ℤ, pos, negsuc}
 use lib.ListN.{length, getD}
 use lib.Signed.{leZ}
-use lib.Ieee.{Float, fin, isNan}
+use lib.Ieee.{Float, fin, isNan, ofInt}
 use lib.Ieee.Scale.{finite}
+use Rattle.whole.specs.Nearest.{nearestAway, IsNearestAway}
 use Rattle.polynomials.specs.Sum.{listed}
 use Rattle.layout.specs.Shape.{tableLength, cumulus}
 use Rattle.layout.specs.Limits.{lowest, highest, good}
@@ -16,16 +17,15 @@ use Rattle.layout.specs.Sound.{light}
 use Rattle.layout.specs.Refusals.{_when_, first, wrongTable, badLimits, tooHeavy, outside}
 use Rattle.layout.specs.Reading.{inside, readNumber, readOutput}
 use Rattle.rounding.specs.Value.{numerator, denominator}
-use Rattle.rounding.specs.Nearest.{IsNearest}
-use Rattle.rounding.specs.Reading.{stepOf}
-use Rattle.rounding.specs.Answer.{floatOf}
+use Rattle.rounding.specs.Reading.{wholeOf, stepOf}
+use Rattle.rounding.specs.Answer.{nearestEven, floatOf}
 use Rattle.rounding.specs.declared.Step.the-variants.{Whole, NotFinite, Outside}
-use Rattle.rounding.proofs.Nearest.{reading-unique}
+use Rattle.rounding.proofs.Nearest.{reading-nearest, reading-unique}
 use Rattle.rounding.proofs.Steps.{step-is, zero-step}
 use Rattle.rounding.proofs.Answers.{zero-positive}
 use Rattle.door.specs.Steps.{notFinite, positiveZero, numberOf, handedBack, isNotFinite, isOutside}
 use Rattle.door.specs.Door.{roundedAll, stepAt, doorNumber, doorReading, doorValue}
-use Rattle.door.proofs.Answers.{number-told, rounded-nearest, number-read, value-read, zero-on-refusal, reading-step, reading-elsewhere, value-number, reading-number}
+use Rattle.door.proofs.Answers.{number-told, number-read, value-read, zero-on-refusal, reading-step, reading-elsewhere, value-number, reading-number}
 
 -- ════ The step of one reading
 -- Positive and negative zero both read as 0.
@@ -33,12 +33,12 @@ pub door-reads-both-zeros : (negative : Bool) (lowest highest : ℤ) → leZ low
 door-reads-both-zeros = zero-step
 
 module _ (t : List ℤ) (x : ℕ → Float) where
-  -- Each reading is rounded to the nearest whole number, within a half of its exact value, and to the even neighbour at a half.
-  pub door-rounds-to-nearest : (i : ℕ) → IsNearest (numerator (x i)) (denominator (x i)) (roundedAll x i)
-  door-rounds-to-nearest = rounded-nearest t x
+  -- Each reading is rounded to the nearest whole number: within a half of its exact value and, just a half away, farther from zero than it.
+  pub door-rounds-to-nearest : (i : ℕ) → IsNearestAway (denominator (x i)) (numerator (x i)) (roundedAll x i)
+  door-rounds-to-nearest i = reading-nearest (x i)
 
   -- Only one whole number is nearest so.
-  pub door-rounding-unique : (i : ℕ) (z : ℤ) → IsNearest (numerator (x i)) (denominator (x i)) z → z ≡ roundedAll x i
+  pub door-rounding-unique : (i : ℕ) (z : ℤ) → IsNearestAway (denominator (x i)) (numerator (x i)) z → z ≡ roundedAll x i
   door-rounding-unique i z = reading-unique (x i) z
 
   -- A finite reading is that whole number where it is inside the limits, and otherwise outside with the float as given; any other is not finite.
@@ -95,3 +95,15 @@ module _ (t : List ℤ) (x : ℕ → Float) where
 -- A zero gives positive zero.
 pub door-zero-is-positive : floatOf (pos 0) ≡ positiveZero
 door-zero-is-positive = zero-positive
+
+-- ════ Two roundings
+-- A half of a reading goes away from zero: 0.5, which the kit's model writes 1·2⁻¹, reads as 1, and -0.5 as -1. So what is promised of moved tables cannot
+-- be promised here: a move of 1 takes the reading 0.5 to -0.5, which reads as -1 where 0 would answer as before.
+pub door-half-across-zero : (wholeOf (fin false 1 (negsuc 0)) ≡ pos 1) × (wholeOf (fin true 1 (negsuc 0)) ≡ negsuc 0)
+unfolding wholeOf nearestAway
+door-half-across-zero = (refl, refl)
+
+-- A half of an answer goes to the even float: 2⁵³ + 1 lies half-way between the floats 2⁵³ and 2⁵³ + 2, and becomes 2⁵³.
+pub door-answers-half-to-even : nearestEven (pos 9007199254740993) ≡ fin false 1 (pos 53)
+unfolding ofInt
+door-answers-half-to-even = refl

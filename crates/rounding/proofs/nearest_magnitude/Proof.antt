@@ -1,4 +1,4 @@
--- `rounding::nearest_magnitude` meets its contract: the truncated float is the whole part, and the two comparisons with the half above it are those of `rounded`.
+-- `rounding::nearest_magnitude` meets its contract: the truncated float is the whole part, and the float is below the half above it exactly where its value is.
 -- Assumes nothing.
 use mathlib.Core.Path.{_≡_, sym, ap, ap₂, subst, _∙_}
 use mathlib.Core.Bool.{true, false}
@@ -11,10 +11,10 @@ use lib.Ieee.{Float, nan, inf, fin, up, down, lt, toUnsigned}
 use lib.Ieee.Fits.{down-pos}
 use lib.Ieee.Exact.{HasValue}
 use lib.Ieee.Positive.{num, den, den-pos, positive, positive-of-value}
-use Rattle.rounding.specs.Nearest.{tie as tie-of, rounded}
+use Rattle.whole.specs.Nearest.{nearestUp}
 use Rattle.rounding.specs.Ready.{farthestNear}
-use Rattle.rounding.proofs.Sides.{half, rounded-below, rounded-above, rounded-at, whole-part-within}
-use Rattle.rounding.proofs.Comparisons.{lt-value, gt-value}
+use Rattle.rounding.proofs.Sides.{half, rounded-below, rounded-from, whole-part-within}
+use Rattle.rounding.proofs.Comparisons.{lt-value}
 use Rattle.rounding.proofs.nearest_magnitude.Statement.{statement}
 use Rattle.rounding.proofs.nearest_magnitude.Tie as tie
 
@@ -35,29 +35,19 @@ unfolding toUnsigned
 truncated nan p l = absurd p
 truncated (inf s) p l = absurd p
 truncated (fin true m e) p l = absurd p
-truncated (fin false m e) p l = omega (arith, whole-part-within (m * up e) (down e) farthestNear (down-pos e) l)
+truncated (fin false m e) p l = omega (arith, whole-part-within (m * up e) (down e) (down-pos e) farthestNear l)
 
 -- ---- by the half above it: y has the value (2q + 1) / 2
 module _ (a y : Float) (q : ℕ) (p : T (positive a)) (e : q ≡ num a / den a) (v : HasValue y false (2 * q + 1) 2) where
-  positive-half : T (positive y)
-  positive-half = positive-of-value y (2 * q + 1) 2 v (omega arith)
+  same-test : ltb (2 * num a) (half (num a) (den a)) ≡ lt a y
+  same-test =
+      sym (lt-value a y (2 * q + 1) 2 p (positive-of-value y (2 * q + 1) 2 v (omega arith)) (lit< tt) v ∙ ap₂ (λ m n. ltb m ((2 * n + 1) * den a)) (mul-comm (num a) 2) e)
 
-  below-test : ltb (2 * num a) (half (num a) (den a)) ≡ lt a y
-  below-test =
-      sym (lt-value a y (2 * q + 1) 2 p positive-half (lit< tt) v ∙ ap₂ (λ m n. ltb m ((2 * n + 1) * den a)) (mul-comm (num a) 2) e)
+  rounds-down : lt a y ≡ true → q ≡ nearestUp (den a) (num a)
+  rounds-down h = e ∙ rounded-below (num a) (den a) (den-pos a) (same-test ∙ h)
 
-  above-test : ltb (half (num a) (den a)) (2 * num a) ≡ lt y a
-  above-test =
-      sym (gt-value a y (2 * q + 1) 2 p positive-half (lit< tt) v ∙ ap₂ (λ m n. ltb ((2 * n + 1) * den a) m) (mul-comm (num a) 2) e)
-
-  rounds-down : lt a y ≡ true → q ≡ rounded (num a) (den a)
-  rounds-down h = e ∙ sym (rounded-below (num a) (den a) (below-test ∙ h))
-
-  rounds-up : lt a y ≡ false → lt y a ≡ true → q + 1 ≡ rounded (num a) (den a)
-  rounds-up h g = ap (λ (n : ℕ). n + 1) e ∙ sym (rounded-above (num a) (den a) (below-test ∙ h) (above-test ∙ g))
-
-  settled : lt a y ≡ false → lt y a ≡ false → tie-of q ≡ rounded (num a) (den a)
-  settled h g = ap tie-of e ∙ sym (rounded-at (num a) (den a) (below-test ∙ h) (above-test ∙ g))
+  rounds-up : lt a y ≡ false → q + 1 ≡ nearestUp (den a) (num a)
+  rounds-up h = ap (λ (n : ℕ). n + 1) e ∙ rounded-from (num a) (den a) (den-pos a) (same-test ∙ h)
 
 -- ---- at the code's places
 module _ (c : tie.After-truncating-f64-to-u64) where
@@ -71,7 +61,7 @@ module _ (c : tie.After-truncating-f64-to-u64) where
   q-is = c .truncating-f64-to-u64 .ensures ∙ truncated a (c .before .pre .0) (c .before .pre .1)
 
   q-small : q ≤ farthestNear
-  q-small = subst (λ (n : ℕ). n ≤ farthestNear) (sym q-is) (whole-part-within (num a) (den a) farthestNear (den-pos a) (c .before .pre .1))
+  q-small = subst (λ (n : ℕ). n ≤ farthestNear) (sym q-is) (whole-part-within (num a) (den a) (den-pos a) farthestNear (c .before .pre .1))
 
 truncating-f64-to-u64-requires : tie.Need-truncating-f64-to-u64-requires
 truncating-f64-to-u64-requires c κs = truncatable (c .args .a) (c .pre .0) (c .pre .1)
@@ -80,10 +70,7 @@ half-above-requires : tie.Need-half-above-requires
 half-above-requires c κs = q-small c
 
 add-result : tie.Need-add-result
-add-result c = omega (arith, q-small (c .before .before .before))
-
-tie-requires : tie.Need-tie-requires
-tie-requires c κs = q-small (c .before .before .before)
+add-result c = omega (arith, q-small (c .before .before))
 
 returns : tie.Need-returns
 returns c =
@@ -93,26 +80,11 @@ returns c =
 
 returns-2 : tie.Need-returns-2
 returns-2 c =
-    let h = c .before .before in
+    let h = c .before in
     let s = h .before in
-    rounds-up (a s) (h .half-above .result) (q s) (s .before .pre .0) (q-is s) (h .half-above .ensures) (c .before .if1 .left) (c .if2 .taken)
-
-returns-3 : tie.Need-returns-3
-returns-3 c =
-    let e = c .before in
-    let h = e .before .before in
-    let s = h .before in
-    c .tie .ensures
-    ∙ settled (a s) (h .half-above .result) (q s) (s .before .pre .0) (q-is s) (h .half-above .ensures) (e .before .if1 .left) (e .if2 .left)
+    rounds-up (a s) (h .half-above .result) (q s) (s .before .pre .0) (q-is s) (h .half-above .ensures) (c .if1 .left)
 
 pub nearest-magnitude-spec : {M : Type 1} → statement M
 nearest-magnitude-spec =
     tie.close
-    (tie.spec
-    truncating-f64-to-u64-requires
-    half-above-requires
-    add-result
-    tie-requires
-    returns
-    returns-2
-    returns-3)
+    (tie.spec truncating-f64-to-u64-requires half-above-requires add-result returns returns-2)

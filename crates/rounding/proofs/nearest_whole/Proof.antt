@@ -1,7 +1,8 @@
 -- `rounding::nearest_whole` meets its contract: rounding keeps the sign, so the magnitude is rounded and turned back.
 -- Assumes nothing.
 use mathlib.Core.Path.{_≡_, refl, sym, ap, _∙_, subst}
-use Prim.Native.Nat.{ℕ, _+_, _*_, _≤_}
+use Prim.Native.Nat.{ℕ, _*_, _≤_}
+use native.Mathlib.Nat.{mul-comm}
 use native.Mathlib.Omega.{arith}
 use lib.IntN.{pos, negℤ, _-ℤ_, +ℤ-idl}
 use lib.Ieee.{Float, ofBits, neg}
@@ -12,15 +13,15 @@ use mir.ValLaws.{toZ-pos}
 use Rattle.whole.proofs.Identity.{quote, quote-pos, quote-minus, ring1}
 use Rattle.whole.proofs.Linear.{zarith}
 use Rattle.whole.proofs.Machine.{op-bits, op-back}
-use Rattle.rounding.specs.Nearest.{rounded}
+use Rattle.whole.specs.Nearest.{nearestUp}
+use Rattle.whole.proofs.Nearest.{up-within}
 use Rattle.rounding.specs.Ready.{farthestNear}
-use Rattle.rounding.proofs.Sides.{rounded-within}
 use Rattle.rounding.proofs.Signs.{Below, below-zero, positive-of, above-zero, at-zero}
 use Rattle.rounding.proofs.nearest_whole.Statement.{statement}
 use Rattle.rounding.proofs.nearest_whole.Tie as tie
 
 -- ---- a small number as an i64, and turned
-module _ (n : ℕ) (h : n ≤ farthestNear + 1) where
+module _ (n : ℕ) (h : n ≤ farthestNear) where
   fits : SFits w64 (pos n)
   fits = record { sfits = omega arith }
 
@@ -37,15 +38,15 @@ module _ (n : ℕ) (h : n ≤ farthestNear + 1) where
   turned-back = op-back _-ℤ_ (refl {a = pos 0}) plain turned-fits ∙ +ℤ-idl (negℤ (pos n))
 
 -- a near float rounds to a small number
-small : (a : Float) (n : ℕ) → num a ≤ farthestNear * den a → n ≡ rounded (num a) (den a) → n ≤ farthestNear + 1
-small a n l e = subst (λ (k : ℕ). k ≤ farthestNear + 1) (sym e) (rounded-within (num a) (den a) farthestNear (den-pos a) l)
+small : (a : Float) (n : ℕ) → num a ≤ farthestNear * den a → n ≡ nearestUp (den a) (num a) → n ≤ farthestNear
+small a n l e = subst (λ (k : ℕ). k ≤ farthestNear) (sym e) (up-within (den a) (den-pos a) (num a) farthestNear (omega (arith, mul-comm (den a) farthestNear)))
 
 -- ---- below zero
 below : (c : tie.Then1) → Below (c .before .args .x)
 unfolding ofBits
 below c = below-zero (c .before .args .x) (c .before .pre) (c .if1 .taken)
 
-small-below : (c : tie.After-nearest-magnitude) → c .nearest-magnitude .result ≤ farthestNear + 1
+small-below : (c : tie.After-nearest-magnitude) → c .nearest-magnitude .result ≤ farthestNear
 small-below c =
     small (neg (c .before .before .args .x)) (c .nearest-magnitude .result) (below (c .before) .small) (c .nearest-magnitude .ensures)
 
@@ -63,7 +64,7 @@ returns c =
     turned-back (c .nearest-magnitude .result) (small-below c) ∙ ap (λ (n : ℕ). negℤ (pos n)) (c .nearest-magnitude .ensures) ∙ below (c .before) .is
 
 -- ---- above zero
-small-above : (c : tie.After-nearest-magnitude2) → c .nearest-magnitude2 .result ≤ farthestNear + 1
+small-above : (c : tie.After-nearest-magnitude2) → c .nearest-magnitude2 .result ≤ farthestNear
 small-above c =
     let s = c .before .before .before in
     small (s .args .x) (c .nearest-magnitude2 .result) (s .pre .small) (c .nearest-magnitude2 .ensures)
