@@ -62,13 +62,16 @@ module _ (m : ℕ) (h : 0 < m) where
         away = rw (off-neg (nearestUp m (suc n)) (suc n), natAbs-neg (pos (nearestUp m (suc n)))) (up-is (suc n) .1);
       }
 
+  unique-neg : (k n : ℕ) → IsNearestAway m (negℤ (pos n)) (negℤ (pos k)) → negℤ (pos k) ≡ negℤ (pos (nearestUp m n))
+  unique-neg k n g = ap (λ j. negℤ (pos j)) (up-unique k n (simp (off-neg k n) at (g .near)) (simp (off-neg k n, natAbs-neg) at (g .away)))
+
   pub nearest-unique : (z q : ℤ) → IsNearestAway m z q → q ≡ nearestAway m z
   unfolding nearestAway
   nearest-unique (pos n) (pos k) g = ap pos (up-unique k n (simp (off-pos k n) at (g .near)) (simp (off-pos k n) at (g .away)))
   nearest-unique (pos n) (negsuc k) g = absurd (omega (arith, off-across k n, g .near, N.mul-suc m k))
   nearest-unique (negsuc n) (pos (suc k)) g = let l : 2 * (m * suc k + suc n) ≤ m = g .near in absurd (omega (arith, N.mul-suc m k))
-  nearest-unique (negsuc n) (pos zero) g = ap (λ j. negℤ (pos j)) (up-unique 0 (suc n) (simp (off-neg 0 (suc n)) at (g .near)) (simp (off-neg 0 (suc n)) at (g .away)))
-  nearest-unique (negsuc n) (negsuc k) g = ap (λ j. negℤ (pos j)) (up-unique (suc k) (suc n) (simp (off-neg (suc k) (suc n)) at (g .near)) (simp (off-neg (suc k) (suc n)) at (g .away)))
+  nearest-unique (negsuc n) (pos zero) g = unique-neg 0 (suc n) g
+  nearest-unique (negsuc n) (negsuc k) g = unique-neg (suc k) (suc n) g
 
   pub nearest-near : (z : ℤ) → twiceOff m z (nearestAway m z) ≤ m
   nearest-near z = nearest-is z .near
