@@ -1,9 +1,8 @@
--- What a step is, by where the reading lies, and what a step tells of the reading.
+-- What a step is, by where the reading lies, and where the reading lies, by what its step is.
 --   step-is                                                all of it in one equation
 --   zero-step                                              both zeros read as 0
 --   step-not-finite, step-below, step-above, step-inside   each of the four places
 --   Stepped, stepped                                       the places behind each of the three answers
---   told-whole, told-outside, told-not-finite              what an answer in hand says
 use mathlib.Core.Path.{_≡_, refl, sym, ap, subst}
 use mathlib.Core.Logic.{_⊎_, inl, inr}
 use mathlib.Core.Bool.{Bool, true, false, cond, _&&_, true≢false}
@@ -97,30 +96,3 @@ stepped x lowest highest = go (finite x) refl
                 | inl g ↦ is (step-inside x lowest highest f l g) (is-whole f l g)
               ]
         ]
-
-pub record Inside (x : Float) (lowest highest z : ℤ) : Type 0 where
-  pub is : z ≡ wholeOf x
-  pub low : lowest ≤ℤ z
-  pub high : z ≤ℤ highest
-
-module _ (x : Float) (lowest highest : ℤ) where
-  told : {r : Step} → stepOf x lowest highest ≡ r → Stepped x lowest highest r
-  told e = subst (Stepped x lowest highest) e (stepped x lowest highest)
-
-  inside : (z : ℤ) → Stepped x lowest highest (Whole z) → Inside x lowest highest z
-  inside z (is-whole f l g) = record { is = refl; low = l; high = g }
-
-  given : (y : Float) → Stepped x lowest highest (Outside y) → y ≡ x
-  given y (is-outside f p) = refl
-
-  valueless : Stepped x lowest highest NotFinite → finite x ≡ false
-  valueless (is-not-finite n) = n
-
-  pub told-whole : (z : ℤ) → stepOf x lowest highest ≡ Whole z → Inside x lowest highest z
-  told-whole z e = inside z (told e)
-
-  pub told-outside : (y : Float) → stepOf x lowest highest ≡ Outside y → y ≡ x
-  told-outside y e = given y (told e)
-
-  pub told-not-finite : stepOf x lowest highest ≡ NotFinite → finite x ≡ false
-  told-not-finite e = valueless (told e)

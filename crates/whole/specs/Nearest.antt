@@ -3,7 +3,7 @@ use mathlib.Core.Path.{_≡_}
 use Prim.Native.Nat.{ℕ, suc, _+_, _*_, _/_, _≤_, _<_}
 use lib.IntN.{ℤ, pos, negsuc, negℤ, natAbs, _-ℤ_, _*ℤ_}
 
--- of a magnitude n / m: the whole part once half of m is put on to n; half of an odd m is cut, and from there nothing lies half-way
+-- of a magnitude n / m: the whole part of n / m + 1 / 2. With an odd m nothing lies half-way, so that cutting its half to a whole number changes nothing.
 abbrev pub nearestUp : ℕ → ℕ → ℕ
 nearestUp m n = (n + m / 2) / m
 
