@@ -7,6 +7,7 @@
 --   Identity    a polynomial identity in one line, by Solver
 --   Linear      a linear fact in one line, by `omega`
 --   Nearest     a quotient rounded to the nearest whole number
+--   Down        a quotient rounded down
 --   Controls    what Identity and Linear prove, and what Solver refuses
 pub mod Ring
 pub mod Magnitudes
@@ -16,4 +17,5 @@ pub mod Solver
 pub mod Identity
 pub mod Linear
 pub mod Nearest
+pub mod Down
 pub mod Controls
