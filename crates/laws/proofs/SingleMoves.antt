@@ -1,8 +1,8 @@
 -- Single moves of one table, up to a size for each variable.
 --   nearEnough     a test of a variable: the table is light where it reaches as far as the moves take it, and its limits stay in range
 --   single-moves   where it holds of every variable, all these moves are accepted
-use mathlib.Core.Path.{_≡_}
-use mathlib.Core.Bool.{Bool, true, false, cond, _&&_}
+use mathlib.Core.Path.{_≡_, refl, _∙_}
+use mathlib.Core.Bool.{Bool, true, false, cond, _&&_, _||_}
 use mathlib.Core.List.{List}
 use Prim.Native.Nat.{ℕ, _+_, _*_, _≤_, _<_}
 use native.Mathlib.Omega.{arith}
@@ -13,13 +13,13 @@ use lib.ListN.{length, getD}
 use Rattle.whole.proofs.Magnitudes.{natAbs--}
 use Rattle.polynomials.specs.Groups.{longer}
 use Rattle.layout.specs.Shape.{Shape, WellFormed, limitsLength, tableLength}
-use Rattle.layout.specs.Limits.{every, farthestLimit, allInRange}
+use Rattle.layout.specs.Limits.{every, isFineCut, farthestLimit, allInRange}
 use Rattle.layout.specs.Sound.{reach, withinCap, SoundTable}
 use Rattle.layout.specs.Refusals.{done}
-use Rattle.layout.specs.Moving.{owner, movedLimit, movedLimits, moveNumber}
+use Rattle.layout.specs.Moving.{owner, movedLimits, moveNumber}
 use Rattle.laws.proofs.Tests.{&&-left, &&-right, every-all}
-use Rattle.laws.proofs.LimitLaws.{within-range}
-use Rattle.laws.proofs.Moved.{getD-movedLimits}
+use Rattle.laws.proofs.LimitLaws.{asked, within-range}
+use Rattle.laws.proofs.Moved.{placed, getD-movedLimits}
 use Rattle.laws.proofs.NearMoves.{light-near}
 use Rattle.laws.proofs.Refused.{move-done}
 use Rattle.laws.proofs.Accepted.{sound-limits, sound-weights}
@@ -30,7 +30,7 @@ module _ (S : Shape) (t : List ℤ) where
   lightNear i n = withinCap S t (λ p. longer i (2 * n) (reach S t p))
 
   abbrev limitNear : ℕ → ℕ → ℕ → Bool
-  limitNear i n k = leb (natAbs (getD t k (pos 0)) + cond (eqb (owner S k) i) n 0) farthestLimit
+  limitNear i n k = isFineCut S k || leb (natAbs (getD t k (pos 0)) + cond (eqb (owner S k) i) n 0) farthestLimit
 
   abbrev pub nearEnough : (ℕ → ℕ) → ℕ → Bool
   nearEnough sizes i = lightNear i (sizes i) && every (limitsLength S) (limitNear i (sizes i))
@@ -40,10 +40,10 @@ module _ (S : Shape) (t : List ℤ) where
   moved-near false a s n h l = omega arith
 
   range-near : (i : ℕ) (s : ℤ) (n : ℕ) → natAbs s ≤ n → every (limitsLength S) (limitNear i n) ≡ true → allInRange S (movedLimits S i s t) ≡ true
-  unfolding movedLimit
   range-near i s n h e =
-      within-range S (movedLimits S i s t) (λ k l.
-      rw (getD-movedLimits S i s t k l) (moved-near (eqb (owner S k) i) (getD t k (pos 0)) s n h (leb-true _ farthestLimit (every-all (limitsLength S) _ e k l))))
+      within-range S (movedLimits S i s t) (λ k l f.
+      let near = asked (isFineCut S k) (every-all (limitsLength S) _ e k l) f in
+      rw (getD-movedLimits S i s t k l ∙ placed S i s t k (owner S k) false refl f) (moved-near (eqb (owner S k) i) (getD t k (pos 0)) s n h (leb-true _ farthestLimit near)))
 
   pub single-moves : WellFormed S → SoundTable S t → (sizes : ℕ → ℕ) → every (S .variables) (nearEnough sizes) ≡ true → (i : ℕ) (s : ℤ) → i < S .variables → natAbs s ≤ sizes i
       → (out : List ℤ) → length out ≡ tableLength S → moveNumber S t i s out ≡ done

@@ -7,6 +7,7 @@ use Prim.Native.Nat.{ℕ, suc, _-_, _*_, _<_}
 use native.Mathlib.Omega.{arith}
 use lib.IntN.{ℤ, pos, negℤ, pow, one}
 use lib.ListN.{length, replicate, getD, take, drop}
+use Rattle.whole.specs.Down.{roundedDown}
 use Rattle.polynomials.specs.Sum.{sum, listed}
 use Rattle.polynomials.specs.Order.{powers, below, size}
 use Rattle.polynomials.specs.Binomial.{choose}
@@ -77,6 +78,7 @@ smallShape =
     record {
       variables = 2;
       name = λ i. 2 * i;
+      hasFineCut = false;
       blocks = 2;
       kinds = record { u = 0; v = 1; degree = 1 } ∷ record { u = 0; v = 1; degree = 1 } ∷ record { u = 1; v = 0; degree = 0 } ∷ [];
     }
@@ -118,6 +120,48 @@ reaches-listed = refl
 reaches-held : map (λ p. listed 2 (reachesOf (10 ∷ 7 ∷ 5 ∷ []) p)) (low ∷ high ∷ []) ≡ (10 ∷ 5 ∷ []) ∷ (7 ∷ 5 ∷ []) ∷ []
 unfolding listed
 reaches-held = refl
+
+-- ════ the small shape with a fine cut, which stands behind the highest of u
+abbrev fineShape : Shape
+fineShape = record { variables = 2; name = λ i. 2 * i; hasFineCut = true; blocks = 2; kinds = smallShape .kinds }
+
+abbrev fineBounds : ℤ → ℤ → ℤ → ℤ → ℤ → ℤ → List ℤ
+fineBounds a c b f d e = a ∷ c ∷ b ∷ f ∷ d ∷ e ∷ []
+
+-- with u from -2000 to 2000: the cut c and the fine cut f
+abbrev cuts : ℤ → ℤ → List ℤ
+cuts c f = fineBounds (negℤ (pos 2000)) c (pos 2000) f (negℤ (pos 5)) (pos 0)
+
+-- the cut is the fine cut in whole ones, rounded down: first those that are, at both ends of what goes with the cut, then those next to them
+fine-cuts-good : map (good fineShape) (cuts (pos 3) (pos 3000)
+    ∷ cuts (pos 3) (pos 3999)
+    ∷ cuts (pos 0) (pos 0)
+    ∷ cuts (negℤ (pos 1)) (negℤ (pos 1))
+    ∷ cuts (negℤ (pos 1)) (negℤ (pos 1000))
+    ∷ cuts (negℤ (pos 2000)) (negℤ (pos 2_000_000))
+    ∷ cuts (pos 1999) (pos 1_999_999)
+    ∷ cuts (pos 3) (pos 2999)
+    ∷ cuts (pos 3) (pos 4000)
+    ∷ cuts (pos 0) (negℤ (pos 1))
+    ∷ cuts (negℤ (pos 1)) (pos 0)
+    ∷ cuts (negℤ (pos 1)) (negℤ (pos 1001))
+    ∷ []) ≡ replicate 7 true ++ replicate 5 false
+unfolding every allInRange good roundedDown
+fine-cuts-good = refl
+
+-- each piece has the cut and the number after it: -10 to -7 and -8 to 5; 1 to 7 and 6 to 9
+fine-reaches : map (λ t. reach fineShape t low 0 ∷ reach fineShape t high 0 ∷ []) (fineBounds (negℤ (pos 10)) (negℤ (pos 8)) (pos 5) (negℤ (pos 7500)) (negℤ (pos 5)) (pos 0)
+    ∷ fineBounds (pos 1) (pos 6) (pos 9) (pos 6000) (negℤ (pos 1)) (pos 4)
+    ∷ []) ≡ (10 ∷ 8 ∷ []) ∷ (7 ∷ 9 ∷ []) ∷ []
+fine-reaches = refl
+
+-- by 4 in u the fine cut goes by 4000, and by 4 in v it stays
+fine-moved : map (λ i. movedLimits fineShape i (pos 4) (fineBounds (negℤ (pos 10)) (pos 3) (pos 20) (pos 3700) (negℤ (pos 5)) (pos 0))) (0 ∷ 1 ∷ [])
+    ≡ fineBounds (negℤ (pos 14)) (negℤ (pos 1)) (pos 16) (negℤ (pos 300)) (negℤ (pos 5)) (pos 0)
+    ∷ fineBounds (negℤ (pos 10)) (pos 3) (pos 20) (pos 3700) (negℤ (pos 9)) (negℤ (pos 4))
+    ∷ []
+unfolding listed movedLimit movedLimits
+fine-moved = refl
 
 -- ════ reading and moving
 -- limits -10, 3 and 20, and -5 and 0. Up to the cut 100 + 7 u - 2 v and 1 - u, above it 40 - u + 6 v and 2 + 3 u; 1000 and -500 are added in both

@@ -4,7 +4,7 @@
 --   Split         the low and the high group are alike, in variable 0 and another, and those after them are in other variables
 --   own-twice, two-groups, own-fine   the first two groups are one kind, the own group, and it is such a group
 --   inside        every block lies in the table
---   few-variables, few-limits, few-table, few-block, some-block, some-table   how many there are at most, and at least
+--   few-variables, few-limits, few-fine, few-table, few-block, some-block, some-table   how many there are at most, and at least
 use mathlib.Core.Path.{_≡_, refl, sym, ap, subst}
 use mathlib.Core.List.{List, [], _∷_}
 use Prim.Native.Nat.{ℕ, zero, suc, _+_, _*_, _≤_, _<_}
@@ -16,7 +16,7 @@ use Rattle.polynomials.specs.Limits.{highestDegree}
 use Rattle.layout.specs.declared.Kind.{Kind}
 use Rattle.layout.specs.declared.Model.{Model}
 use Rattle.layout.specs.declared.Model.the-variants.{Cumulus, Gtm}
-use Rattle.layout.specs.Shape.{Shape, WellFormed, limitsLength, kindsLength, blockLength, blockStart, tableLength, cumulus, gtm, shape, kindAt, own, shared}
+use Rattle.layout.specs.Shape.{Shape, WellFormed, fineCuts, limitsLength, kindsLength, blockLength, blockStart, tableLength, cumulus, gtm, shape, kindAt, own, shared}
 use Rattle.layout.specs.Numbers.{tableSize, variablesRoom, limitsRoom}
 
 pub well-formed : (m : Model) → WellFormed (shape m)
@@ -101,6 +101,11 @@ few-variables Gtm = omega arith
 pub few-limits : (m : Model) → limitsLength (shape m) ≤ limitsRoom
 few-limits Cumulus = omega arith
 few-limits Gtm = omega arith
+
+-- the room has those of any variable that there is room for
+pub few-fine : (m : Model) → 1 + fineCuts (shape m) + 2 * variablesRoom ≤ limitsRoom
+few-fine Cumulus = omega arith
+few-fine Gtm = omega arith
 
 pub few-table : (m : Model) → tableLength (shape m) ≤ tableSize
 unfolding kindsLength below

@@ -3,7 +3,9 @@ pub const VARIABLES: usize = 2;
 
 pub const BLOCKS: usize = 3;
 
-pub const LIMITS: usize = 1 + 2 * VARIABLES;
+pub const FINE_CUTS: usize = 0;
+
+pub const LIMITS: usize = 1 + FINE_CUTS + 2 * VARIABLES;
 
 // In a block: the low and the high group in alpha and eta.
 pub const GROUPS: usize = 2;

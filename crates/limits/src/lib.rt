@@ -14,13 +14,13 @@ ghost use lib.Signed.{leZ, ltZ};
 ghost use Rattle.polynomials.specs.Sum.{listed};
 ghost use Rattle.layout.specs.Shape.{shape, limitsLength};
 ghost use Rattle.layout.specs.Numbers.{variablesRoom, limitsRoom};
-ghost use Rattle.layout.specs.Limits.{every, lowest, highest, cut, longestShift, inRange, allInRange, inOrder, good};
+ghost use Rattle.layout.specs.Limits.{every, lowest, highest, cut, isFineCut, longestShift, inRange, allInRange, inOrder, cutsAgree, good};
 ghost use Rattle.layout.specs.Blocks.{piece as pieceOf};
-ghost use Rattle.layout.specs.Sound.{span, reach};
+ghost use Rattle.layout.specs.Sound.{span, lowEnd, highStart, reach};
 ghost use Rattle.layout.specs.Reaches.{listedReaches};
 ghost use Rattle.layout.specs.Refusals.{outside, first, _when_};
 ghost use Rattle.layout.specs.Reading.{readings, inside};
-ghost use Rattle.layout.specs.Moving.{owner, movedLimit};
+ghost use Rattle.layout.specs.Moving.{owner, shiftAt, movedLimit};
 
 // The greatest limit that is in range.
 pub const MOST: i64 = 2000;
@@ -28,8 +28,13 @@ pub const MOST: i64 = 2000;
 // And the greatest magnitude.
 const FARTHEST: u64 = MOST as u64;
 
-// The cut of variable 0 stands between its lowest and its highest reading.
+// The cut of variable 0 stands between its lowest and its highest reading, and its fine cut, where the model has one, behind them.
 const CUT: usize = 1;
+
+const FINE_CUT: usize = 3;
+
+// How many thousandths a whole one has.
+const THOUSAND: i64 = 1000;
 
 // The pieces, as they are counted.
 const LOW: usize = 0;
@@ -95,7 +100,8 @@ impl Limits {
         ensures { λ r. ⌜ r ≡ lowest (shape (self .model)) (self .numbers) variable ⌝ }
     {
         if variable > 0 {
-            return self.at(2 * variable + 1);
+            let model = self.model;
+            return self.at(2 * variable + 1 + shapes::fine_cuts(model));
         }
         self.at(0)
     }
@@ -105,29 +111,45 @@ impl Limits {
         requires { ⌜ variable < variablesRoom ⌝ }
         ensures { λ r. ⌜ r ≡ highest (shape (self .model)) (self .numbers) variable ⌝ }
     {
-        self.at(2 * variable + 2)
+        if variable > 0 {
+            let model = self.model;
+            return self.at(2 * variable + 2 + shapes::fine_cuts(model));
+        }
+        self.at(2)
     }
 
-    // The variable that the limit at a place belongs to: up to the cut variable 0, then two places for each.
+    // Whether the fine cut stands at a place.
+    fn is_fine_cut(self, place: usize) -> bool
+        ensures { λ r. ⌜ r ≡ isFineCut (shape (self .model)) place ⌝ }
+    {
+        let model = self.model;
+        shapes::has_fine_cut(model) & (place == FINE_CUT)
+    }
+
+    // The variable that the limit at a place belongs to: variable 0 up to the cut and for as many more as it has fine cuts, then two places for each.
     fn owner(self, place: usize) -> usize
         ensures { λ r. ⌜ r ≡ owner (shape (self .model)) place ⌝ }
     {
-        if place <= CUT {
+        let model = self.model;
+        let before = CUT + shapes::fine_cuts(model);
+        if place <= before {
             return 0;
         }
-        (place - 1) / 2
+        (place - before) / 2
     }
 
-    // Whether the limit at a place lies in -2000..2000, or the model has none there.
+    // Whether the limit at a place lies in -2000..2000, or is the fine cut, or the model has none there.
     fn place_in_range(self, place: usize) -> bool
         requires { ⌜ place < limitsRoom ⌝ }
         ensures { λ r. ⌜ r ≡ cond (ltb place (limitsLength (shape (self .model)))) (inRange (shape (self .model)) (self .numbers) place) true ⌝ }
     {
         let model = self.model;
-        (shapes::limits(model) <= place) | (whole::magnitude(self.at(place)) <= FARTHEST)
+        (shapes::limits(model) <= place)
+            | self.is_fine_cut(place)
+            | (whole::magnitude(self.at(place)) <= FARTHEST)
     }
 
-    // Whether each limit lies in -2000..2000.
+    // Whether each limit lies in -2000..2000, which the fine cut is not held to.
     pub fn in_range(self) -> bool
         ensures { λ r. ⌜ r ≡ allInRange (shape (self .model)) (self .numbers) ⌝ }
     {
@@ -168,7 +190,21 @@ impl Limits {
         self.in_order(1) & self.in_order(2) & self.in_order(3) & self.in_order(4)
     }
 
-    // Whether every limit is in range, and the limits of every variable are in order.
+    // Whether the cut is the fine cut in whole ones, rounded down.
+    fn cuts_agree(self) -> bool
+        requires { ⌜ allInRange (shape (self .model)) (self .numbers) ≡ true ⌝ }
+        ensures { λ r. ⌜ r ≡ cutsAgree (shape (self .model)) (self .numbers) ⌝ }
+    {
+        let model = self.model;
+        if !shapes::has_fine_cut(model) {
+            return true;
+        }
+        let from = THOUSAND * self.at(CUT);
+        let fine = self.at(FINE_CUT);
+        (from <= fine) & (fine < from + THOUSAND)
+    }
+
+    // Whether every limit is in range, the limits of every variable are in order, and the two cuts agree.
     pub fn good(self) -> bool
         ensures { λ r. ⌜ r ≡ good (shape (self .model)) (self .numbers) ⌝ }
     {
@@ -178,24 +214,38 @@ impl Limits {
         if !self.others_in_order() {
             return false;
         }
-        self.in_range()
+        if !self.in_range() {
+            return false;
+        }
+        self.cuts_agree()
+    }
+
+    // A shift as it counts at a place: in thousandths at the fine cut.
+    fn shift_at(self, place: usize, shift: i64) -> i64
+        requires { ⌜ natAbs shift ≤ longestShift ⌝ }
+        ensures { λ r. ⌜ r ≡ shiftAt (shape (self .model)) place shift ⌝ }
+    {
+        if self.is_fine_cut(place) {
+            return THOUSAND * shift;
+        }
+        shift
     }
 
     // The limit at a place once the datum of a variable is moved.
     fn moved_limit(self, variable: usize, shift: i64, place: usize) -> i64
-        requires { ⌜ (allInRange (shape (self .model)) (self .numbers) ≡ true) × ((natAbs shift ≤ longestShift) × ((variable < shape (self .model) .variables) × (place < limitsRoom))) ⌝ }
+        requires { ⌜ (good (shape (self .model)) (self .numbers) ≡ true) × ((natAbs shift ≤ longestShift) × ((variable < shape (self .model) .variables) × (place < limitsRoom))) ⌝ }
         ensures { λ r. ⌜ r ≡ movedLimit (shape (self .model)) variable shift (self .numbers) place ⌝ }
     {
         let number = self.at(place);
         if self.owner(place) == variable {
-            return number - shift;
+            return number - self.shift_at(place, shift);
         }
         number
     }
 
-    // The limits with each of one variable less `shift`.
+    // The limits with each of one variable less `shift`, and the fine cut by its thousandths.
     pub fn moved(self, variable: usize, shift: i64) -> Limits
-        requires { ⌜ (allInRange (shape (self .model)) (self .numbers) ≡ true) × ((natAbs shift ≤ longestShift) × (variable < shape (self .model) .variables)) ⌝ }
+        requires { ⌜ (good (shape (self .model)) (self .numbers) ≡ true) × ((natAbs shift ≤ longestShift) × (variable < shape (self .model) .variables)) ⌝ }
         ensures { λ r. ⌜ (r .model ≡ self .model) × (r .numbers ≡ listed limitsRoom (movedLimit (shape (self .model)) variable shift (self .numbers))) ⌝ }
     {
         let model = self.model;
@@ -212,17 +262,42 @@ impl Limits {
         }
     }
 
+    // Where the low piece of variable 0 ends.
+    fn low_end(self) -> i64
+        requires { ⌜ allInRange (shape (self .model)) (self .numbers) ≡ true ⌝ }
+        ensures { λ r. ⌜ r ≡ lowEnd (shape (self .model)) (self .numbers) ⌝ }
+    {
+        let model = self.model;
+        let cut = self.at(CUT);
+        if shapes::has_fine_cut(model) {
+            return cut + 1;
+        }
+        cut
+    }
+
+    // Where its high piece starts.
+    fn high_start(self) -> i64
+        requires { ⌜ allInRange (shape (self .model)) (self .numbers) ≡ true ⌝ }
+        ensures { λ r. ⌜ r ≡ highStart (shape (self .model)) (self .numbers) ⌝ }
+    {
+        let model = self.model;
+        let cut = self.at(CUT);
+        if shapes::has_fine_cut(model) {
+            return cut;
+        }
+        cut + 1
+    }
+
     // How far a variable reaches in a piece: 0 is the low piece, any other number the high one.
     fn reach(self, piece: usize, variable: usize) -> u64
         requires { ⌜ (allInRange (shape (self .model)) (self .numbers) ≡ true) × (variable < variablesRoom) ⌝ }
         ensures { λ r. ⌜ r ≡ reach (shape (self .model)) (self .numbers) (pieceOf piece) variable ⌝ }
     {
         if variable == 0 {
-            let cut = self.at(CUT);
             if piece == 0 {
-                return span(self.lowest(0), cut);
+                return span(self.lowest(0), self.low_end());
             }
-            return span(cut + 1, self.highest(0));
+            return span(self.high_start(), self.highest(0));
         }
         span(self.lowest(variable), self.highest(variable))
     }

@@ -27,7 +27,7 @@ use Rattle.layout.specs.Blocks.{Piece, low, high}
 use Rattle.layout.specs.Sound.{reach, withinCap}
 use Rattle.layout.specs.Reaches.{reachAt, listedReaches, reachesOf}
 use Rattle.layout.specs.Refusals.{first}
-use Rattle.layout.specs.Moving.{owner, movedLimit, movedLimits, moveReach, moveLight, moveNumber, moveOutput}
+use Rattle.layout.specs.Moving.{owner, shiftAt, movedLimit, movedLimits, moveReach, moveLight, moveNumber, moveOutput}
 use Rattle.layout.proofs.Fine.{well-formed, few-variables, few-limits}
 use Rattle.laws.proofs.LimitLaws.{SameLimits, allInRange-same, reach-same}
 use Rattle.laws.proofs.Moved.{getD-movedLimits}
@@ -80,7 +80,7 @@ module _ (m : Model) (t : List ℤ) (i : ℕ) (s : ℤ) where
       record {
         at = λ k h.
             let l : k < limitsRoom = omega (arith, few-limits m) in
-            getD-listed limitsRoom (movedLimit S i s (taken m t)) k (pos 0) l ∙ ap (λ z. cond (eqb (owner S k) i) (z -ℤ s) z) (getD-take limitsRoom t k (pos 0) l) ∙ sym (getD-movedLimits S i s t k h);
+            getD-listed limitsRoom (movedLimit S i s (taken m t)) k (pos 0) l ∙ ap (λ z. cond (eqb (owner S k) i) (z -ℤ shiftAt S k s) z) (getD-take limitsRoom t k (pos 0) l) ∙ sym (getD-movedLimits S i s t k h);
       }
 
   pub moved-written : take (limitsLength S) movedRoom ≡ moved

@@ -4,7 +4,7 @@ ghost use Prim.Native.Nat.{_≤_, _<_};
 ghost use lib.ListN.{length};
 ghost use Rattle.polynomials.specs.Limits.{highestDegree};
 ghost use Rattle.polynomials.specs.Order.{size};
-ghost use Rattle.layout.specs.Shape.{shape, kindAt, limitsLength, blockLength, blockStart, tableLength, cumulus, gtm};
+ghost use Rattle.layout.specs.Shape.{shape, kindAt, fineCuts, limitsLength, blockLength, blockStart, tableLength, cumulus, gtm};
 ghost use Rattle.layout.specs.Refusals.{outside};
 use layout::Kind;
 use layout::Model;
@@ -40,6 +40,23 @@ pub fn groups(model: Model) -> usize
         Model::Cumulus => cumulus_one::GROUPS,
         Model::Gtm => gtm_longitudinal::GROUPS,
     }
+}
+
+// How many fine cuts variable 0 has: one, or none.
+pub fn fine_cuts(model: Model) -> usize
+    ensures { λ r. ⌜ r ≡ fineCuts (shape model) ⌝ }
+{
+    match model {
+        Model::Cumulus => cumulus_one::FINE_CUTS,
+        Model::Gtm => gtm_longitudinal::FINE_CUTS,
+    }
+}
+
+// Whether it has one.
+pub fn has_fine_cut(model: Model) -> bool
+    ensures { λ r. ⌜ r ≡ shape model .hasFineCut ⌝ }
+{
+    fine_cuts(model) > 0
 }
 
 // How many numbers the limits are, which come first in a table.

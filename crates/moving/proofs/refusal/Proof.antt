@@ -20,10 +20,9 @@ use Rattle.layout.specs.Reaches.{listedReaches, reachesOf}
 use Rattle.layout.specs.Moving.{movedLimits, moveLight}
 use Rattle.layout.specs.Refusals.{limitPast, moveTooHeavy}
 use Rattle.layout.proofs.Fine.{some-table}
-use Rattle.laws.proofs.LimitLaws.{good-facts}
 use Rattle.laws.proofs.Reaches.{listed-one, listed-longer}
 use Rattle.laws.proofs.Refused.{first-skip, first-hit}
-use Rattle.tables.proofs.Taken.{first-nothing, range-taken}
+use Rattle.tables.proofs.Taken.{first-nothing, good-taken}
 use Rattle.moving.specs.Ready.{longerAt, Lengthened}
 use Rattle.moving.proofs.Steps.{movedRoom, moved-held, moved-range, moved-reaches, longerReach, move-far, lengthened, move-one, move-light}
 use Rattle.moving.proofs.refusal.Statement.{statement}
@@ -118,7 +117,7 @@ of-requires c κs = let o = c .before .before in omega (arith, o .pre .0, some-t
 moved-requires : tie.Need-moved-requires
 moved-requires c κs =
     let o = c .before .before .before in (
-      range-taken (m o) (t o) (c .of .result) (c .of .ensures) ∙ good-facts (S o) (t o) (o .pre .1 .1) .range,
+      good-taken (m o) (t o) (c .of .result) (c .of .ensures) ∙ o .pre .1 .1,
       (rw (shift-is o) (near (c .before)), subst (λ m. i o < shape m .variables) (sym (c .of .ensures .0)) (o .pre .1 .0)),
     )
 
