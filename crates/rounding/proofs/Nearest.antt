@@ -1,4 +1,7 @@
--- What a float is read as, told of its exact value: within a half of it and away from zero at a half, and the only such number.
+-- What a float is read as, told of its exact value.
+--   denominator-pos    the denominator is above 0
+--   reading-nearest    the reading is within a half of the value, and away from zero at a half
+--   reading-unique     and it is the only such number
 use mathlib.Core.Path.{_≡_}
 use Prim.Native.Nat.{_<_}
 use native.Mathlib.Omega.{arith}
@@ -10,7 +13,7 @@ use Rattle.whole.proofs.Nearest.{nearest-is, nearest-unique}
 use Rattle.rounding.specs.Value.{numerator, denominator}
 use Rattle.rounding.specs.Reading.{wholeOf}
 
-denominator-pos : (x : Float) → 0 < denominator x
+pub denominator-pos : (x : Float) → 0 < denominator x
 denominator-pos nan = omega arith
 denominator-pos (inf s) = omega arith
 denominator-pos (fin s m e) = down-pos e

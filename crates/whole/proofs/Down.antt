@@ -3,12 +3,14 @@
 --   down-most     no whole number q with m·q at most z is larger
 --   down-unique   it is the only number that is as down-is says
 --   down-shift    a quotient of s·m less than z is rounded to s less
-use mathlib.Core.Path.{_≡_, sym}
+--   down-same     fractions of one value are rounded to one number
+--   down-size     it is no larger in size than z
+use mathlib.Core.Path.{_≡_, sym, _∙_, ap₂}
 use mathlib.Core.Logic.{inl, inr}
-use Prim.Native.Nat.{ℕ, suc, _+_, _*_, _/_, _%_, _<_}
+use Prim.Native.Nat.{ℕ, suc, _+_, _*_, _/_, _%_, _≤_, _<_, suc-le-suc}
 use native.Mathlib.Nat as N
 use native.Mathlib.Omega.{arith}
-use lib.IntN.{ℤ, pos, negsuc, _+ℤ_, _-ℤ_, _*ℤ_}
+use lib.IntN.{ℤ, pos, negsuc, natAbs, _+ℤ_, _-ℤ_, _*ℤ_}
 use lib.Signed.{_≤ℤ_, _<ℤ_}
 use Rattle.whole.specs.Down.{roundedDown}
 use Rattle.whole.proofs.Ring.{balance-+, balance-*}
@@ -57,3 +59,28 @@ module _ (m : ℕ) (h : 0 < m) where
   down-shift z s =
       let q = roundedDown m z in
       sym (down-unique (z -ℤ pos m *ℤ s) (q -ℤ s) (less z q s (down-is z .0)) (less-next z q s (down-is z .1)))
+
+-- with both parts of the fraction k times as large
+scaled : (m k : ℕ) → 0 < m → 0 < k → (z : ℤ) → roundedDown m z ≡ roundedDown (m * k) (z *ℤ pos k)
+scaled m k h l z =
+    let q = roundedDown m z in
+    let p : 0 < m * k = N.mul-pos h l in
+    let n : pos 0 ≤ℤ pos k = le-in (omega arith) in
+    down-unique (m * k) p (z *ℤ pos k) q (low q (≤ℤ-mul n (down-is m h z .0))) (high q (≤ℤ-mul n (next q (down-is m h z .1))))
+  where
+    low : (q : ℤ) → (pos k *ℤ (pos m *ℤ q)) ≤ℤ (pos k *ℤ z) → (pos (m * k) *ℤ q) ≤ℤ (z *ℤ pos k)
+    low q = ring2 z q (λ ρ e f. simp (quote, quote-pos ρ, e, f) (omega zarith))
+
+    next : (q : ℤ) → z <ℤ (pos m *ℤ q +ℤ pos m) → (z +ℤ pos 1) ≤ℤ (pos m *ℤ q +ℤ pos m)
+    next q = ring2 z q (λ ρ e f. simp (quote, quote-pos ρ, e, f) (omega zarith))
+
+    high : (q : ℤ) → (pos k *ℤ (z +ℤ pos 1)) ≤ℤ (pos k *ℤ (pos m *ℤ q +ℤ pos m)) → (z *ℤ pos k) <ℤ (pos (m * k) *ℤ q +ℤ pos (m * k))
+    high q = ring2 z q (λ ρ e f. simp (quote, quote-pos ρ, e, f) (omega zarith))
+
+pub down-same : (m n : ℕ) → 0 < m → 0 < n → (y z : ℤ) → y *ℤ pos n ≡ z *ℤ pos m → roundedDown m y ≡ roundedDown n z
+down-same m n h l y z e = scaled m n h l y ∙ ap₂ roundedDown (N.mul-comm m n) e ∙ sym (scaled n m l h z)
+
+pub down-size : (m : ℕ) (z : ℤ) → natAbs (roundedDown m z) ≤ natAbs z
+unfolding roundedDown
+down-size m (pos n) = N.div-le-self n m
+down-size m (negsuc n) = suc-le-suc (N.div-le-self n m)
