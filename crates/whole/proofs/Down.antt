@@ -16,7 +16,7 @@ use Rattle.whole.specs.Down.{roundedDown}
 use Rattle.whole.proofs.Ring.{balance-+, balance-*}
 use Rattle.whole.proofs.Identity.{quote, quote-pos, ring2, ring3}
 use Rattle.whole.proofs.Linear.{zarith}
-use Rattle.whole.proofs.Order.{le-in, lt-in, ≤ℤ-or-<ℤ, ≤ℤ-antisym, ≤ℤ-mul}
+use Rattle.whole.proofs.Order.{le-in, lt-in, ≤ℤ-or-<ℤ, ≤ℤ-antisym, <ℤ-next, ≤ℤ-mul}
 
 module _ (m : ℕ) (h : 0 < m) where
   parts : (n : ℕ) → (m * (n / m) + n % m ≡ n) × (n % m < m)
@@ -34,11 +34,8 @@ module _ (m : ℕ) (h : 0 < m) where
 
   -- m·q is at most z, and m·(r + 1) is more
   most : (q r z : ℤ) → (pos m *ℤ q) ≤ℤ z → z <ℤ (pos m *ℤ r +ℤ pos m) → q ≤ℤ r
-  most q r z l g = elim (≤ℤ-or-<ℤ r q) [ inl n ↦ n | inr n ↦ absurd (clash (≤ℤ-mul {a = pos m} (le-in (omega arith)) (next n)) l g) ]
+  most q r z l g = elim (≤ℤ-or-<ℤ r q) [ inl n ↦ n | inr n ↦ absurd (clash (≤ℤ-mul {a = pos m} (le-in (omega arith)) (<ℤ-next n)) l g) ]
     where
-      next : r <ℤ q → (r +ℤ pos 1) ≤ℤ q
-      next = ring2 q r (λ ρ e f. simp (quote, quote-pos ρ, e, f) (omega zarith))
-
       clash : (pos m *ℤ (r +ℤ pos 1)) ≤ℤ (pos m *ℤ q) → (pos m *ℤ q) ≤ℤ z → z <ℤ (pos m *ℤ r +ℤ pos m) → ⊥
       clash = ring3 q r z (λ ρ e f g. simp (quote, quote-pos ρ, e, f, g) (omega zarith))
 
@@ -66,13 +63,10 @@ scaled m k h l z =
     let q = roundedDown m z in
     let p : 0 < m * k = N.mul-pos h l in
     let n : pos 0 ≤ℤ pos k = le-in (omega arith) in
-    down-unique (m * k) p (z *ℤ pos k) q (low q (≤ℤ-mul n (down-is m h z .0))) (high q (≤ℤ-mul n (next q (down-is m h z .1))))
+    down-unique (m * k) p (z *ℤ pos k) q (low q (≤ℤ-mul n (down-is m h z .0))) (high q (≤ℤ-mul n (<ℤ-next (down-is m h z .1))))
   where
     low : (q : ℤ) → (pos k *ℤ (pos m *ℤ q)) ≤ℤ (pos k *ℤ z) → (pos (m * k) *ℤ q) ≤ℤ (z *ℤ pos k)
     low q = ring2 z q (λ ρ e f. simp (quote, quote-pos ρ, e, f) (omega zarith))
-
-    next : (q : ℤ) → z <ℤ (pos m *ℤ q +ℤ pos m) → (z +ℤ pos 1) ≤ℤ (pos m *ℤ q +ℤ pos m)
-    next q = ring2 z q (λ ρ e f. simp (quote, quote-pos ρ, e, f) (omega zarith))
 
     high : (q : ℤ) → (pos k *ℤ (z +ℤ pos 1)) ≤ℤ (pos k *ℤ (pos m *ℤ q +ℤ pos m)) → (z *ℤ pos k) <ℤ (pos (m * k) *ℤ q +ℤ pos (m * k))
     high q = ring2 z q (λ ρ e f. simp (quote, quote-pos ρ, e, f) (omega zarith))

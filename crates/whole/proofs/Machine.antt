@@ -1,7 +1,7 @@
 -- Whole numbers in 64 bits: what fits, what a test on i64 says, and what an operation on i64 asks and gives.
 -- A signed local holds bits, so a test and a need speak of `toZ w64 (ofZ w64 x)`, which is x where x fits.
 --   fits        natAbs-sfits, within-sfits: by a magnitude below 2 ^ 63; sfits-bound: the magnitude of a number that fits
---   tests       lt-taken, lt-left, le-taken, le-left: what `x < y` and `x <= y` say, taken or left
+--   tests       lt-taken, lt-left, le-taken, le-left: what `x < y` and `x <= y` say, taken or left; leZ-no, of `leZ` where it fails
 --   operations  add-bits, sub-bits, mul-bits, neg-bits: the need, that the result fits; add-back, sub-back, mul-back, neg-back: the result as it is read back
 --   chains      op-bits and op-back are the same for any operation, with each operand's value handed over as an equation: the -back of the operation
 --               before, `toZ-ofZ f` of a variable, and `refl {a = pos 7}` of a literal
@@ -31,7 +31,7 @@ pub sfits-bound : {z : ℤ} → SFits w64 z → natAbs z ≤ 2 ^ 63
 sfits-bound {z} f = natAbs-le z (f .sfits)
 
 -- ════ tests
-leZ-no : (x y : ℤ) → T (not (leZ x y)) → y <ℤ x
+pub leZ-no : (x y : ℤ) → T (not (leZ x y)) → y <ℤ x
 leZ-no x y t = ⊎-elim (λ h. absurd (T-not (leZ x y) (h .le) t)) (λ h. h) (≤ℤ-or-<ℤ y x)
 
 module _ {x y : ℤ} (f : SFits w64 x) (g : SFits w64 y) where

@@ -1,5 +1,5 @@
 -- The order of ℤ, on the kit's `_≤ℤ_` and `_<ℤ_`.
---   order       ≤ℤ-trans, ≤ℤ-antisym; <ℤ-≤ℤ; ≤ℤ-or-<ℤ, one of the two holds
+--   order       ≤ℤ-trans, ≤ℤ-antisym; <ℤ-≤ℤ; <ℤ-next, the next number is at most; ≤ℤ-or-<ℤ, one of the two holds
 --   operations  ≤ℤ-add and ≤ℤ-sub, of the same number; ≤ℤ-neg; ≤ℤ-mul, by a factor that is not negative
 --   magnitudes  two-sided and from-two: natAbs r ≤ b says that r is from −b to b; hull: between two numbers, of no larger magnitude than one of them or 1
 --   in ℕ        le-out and lt-out read a fact as one of `up` and `dn` of `Ring`, le-in and lt-in write one
@@ -54,6 +54,9 @@ pub ≤ℤ-antisym : {x y : ℤ} → x ≤ℤ y → y ≤ℤ x → x ≡ y
 
 pub <ℤ-≤ℤ : {x y : ℤ} → x <ℤ y → x ≤ℤ y
 <ℤ-≤ℤ h = le-in (omega (arith, lt-out h))
+
+pub <ℤ-next : {x y : ℤ} → x <ℤ y → (x +ℤ pos 1) ≤ℤ y
+<ℤ-next {x} h = le-in (omega (arith, balance-+ x (pos 1), lt-out h))
 
 pub ≤ℤ-add : {x y : ℤ} (s : ℤ) → x ≤ℤ y → (x +ℤ s) ≤ℤ (y +ℤ s)
 ≤ℤ-add {x} {y} s h = le-in (omega (arith, balance-+ x s, balance-+ y s, le-out h))

@@ -30,9 +30,16 @@ module _ (z : ℤ) (l : natAbs z < 2 ^ 63) where
   turned-back : toZ w64 (ofZ w64 (pos 0 -ℤ toZ w64 (ofZ w64 z))) ≡ negℤ z
   turned-back = neg-back (natAbs-sfits z l) turned-fits
 
--- what a shift leaves of one
-left : (m : ℕ) (z r : ℤ) → natAbs z < 2 ^ 63 → r ≡ roundedDown m z → natAbs r < 2 ^ 63
-left m z r l e = subst (λ y. natAbs y < 2 ^ 63) (sym e) (lt-of-le-of-lt (down-size m z) l)
+-- what a shift leaves of one, turned
+module _ (m : ℕ) (z r : ℤ) (l : natAbs z < 2 ^ 63) (e : r ≡ roundedDown m z) where
+  left : natAbs r < 2 ^ 63
+  left = subst (λ y. natAbs y < 2 ^ 63) (sym e) (lt-of-le-of-lt (down-size m z) l)
+
+  left-bits : SFits w64 (pos 0 -ℤ toZ w64 (ofZ w64 r))
+  left-bits = turned-bits r left
+
+  left-back : toZ w64 (ofZ w64 (pos 0 -ℤ toZ w64 (ofZ w64 r))) ≡ negℤ (roundedDown m z)
+  left-back = turned-back r left ∙ ap negℤ e
 
 -- ---- at the code's places
 module _ (c : tie.After-struct-known) where
@@ -76,7 +83,7 @@ shifted-down-requires : tie.Need-shifted-down-requires
 shifted-down-requires c κs = search needs
 
 sub-result : tie.Need-sub-result
-sub-result c = let p = c .before .before in turned-bits (c .shifted-down .result) (left (2 ^ s p) (n p) _ (small p) (down-is c))
+sub-result c = let p = c .before .before in left-bits (2 ^ s p) (n p) _ (small p) (down-is c)
 
 sub-shifted-down : tie.Need-sub-shifted-down
 sub-shifted-down c = turned-bits (n (c .before)) (small (c .before))
@@ -85,21 +92,19 @@ shifted-down-requires-2 : tie.Need-shifted-down-requires-2
 shifted-down-requires-2 c κs = search needs
 
 sub-result-2 : tie.Need-sub-result-2
-sub-result-2 c = let p = c .before .before in turned-bits (c .shifted-down2 .result) (left (2 ^ s p) (negℤ (n p)) _ (small-turned p) (down-is-2 c))
+sub-result-2 c = let p = c .before .before in left-bits (2 ^ s p) (negℤ (n p)) _ (small-turned p) (down-is-2 c)
 
 returns : tie.Need-returns
 unfolding ofBits
 returns c =
     let p = c .before .before in
-    turned-back (c .shifted-down .result) (left (2 ^ s p) (n p) _ (small p) (down-is c)) ∙ ap negℤ (down-is c)
-    ∙ up-below (x p) (d p) (s p) (parts p) (c .before .if1 .taken)
+    left-back (2 ^ s p) (n p) _ (small p) (down-is c) ∙ up-below (x p) (d p) (s p) (parts p) (c .before .if1 .taken)
 
 returns-2 : tie.Need-returns-2
 unfolding ofBits
 returns-2 c =
     let p = c .before .before in
-    turned-back (c .shifted-down2 .result) (left (2 ^ s p) (negℤ (n p)) _ (small-turned p) (down-is-2 c)) ∙ ap negℤ (down-is-2 c)
-    ∙ up-from (x p) (d p) (s p) (parts p) (c .before .if1 .left)
+    left-back (2 ^ s p) (negℤ (n p)) _ (small-turned p) (down-is-2 c) ∙ up-from (x p) (d p) (s p) (parts p) (c .before .if1 .left)
 
 pub thousandths-up-spec : {M : Type 1} → statement M
 thousandths-up-spec =
