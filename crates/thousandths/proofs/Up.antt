@@ -3,17 +3,19 @@
 --   up-at-most          the float is at most k thousandths where this number is at most k
 use mathlib.Core.Path.{_≡_, refl, sym, ap, _∙_, subst}
 use mathlib.Core.Bool.{Bool, true, false, false≢true}
-use Prim.Native.Nat.{ℕ, _*_, _^_, _<_}
+use Prim.Native.Nat.{ℕ, zero, suc, _*_, _/_, _^_, _<_}
+use native.Mathlib.Nat.{zero-div}
+use native.Mathlib.Numerals.{add-one}
 use native.Mathlib.Omega.{arith}
 use lib.Dec.{T}
-use lib.IntN.{ℤ, pos, negℤ, _*ℤ_}
+use lib.IntN.{ℤ, pos, negsuc, negℤ, _+ℤ_, _-ℤ_, _*ℤ_}
 use lib.Pow.{pow-pos}
 use lib.Signed.{leZ, _≤ℤ_, leZ-yes}
 use lib.Ieee.{Float, nan, inf, fin, up, lt}
 use lib.Ieee.Positive.{num, den}
 use borrow.Author.Tests.{ltb-true, ltb-false}
 use Rattle.whole.specs.Down.{roundedDown}
-use Rattle.whole.proofs.Ring.{neg-*ℤ}
+use Rattle.whole.proofs.Ring.{ext, balance-+, neg-*ℤ}
 use Rattle.whole.proofs.Identity.{quote, quote-pos, by, ring1, ring2, ring3}
 use Rattle.whole.proofs.Linear.{zarith}
 use Rattle.whole.proofs.Order.{le-in, ≤ℤ-mul}
@@ -49,6 +51,14 @@ den-is (fin s m e) = refl
 turned-twice : (z : ℤ) → negℤ (pos thousand *ℤ negℤ z) ≡ pos thousand *ℤ z
 turned-twice z = ring1 z (λ ρ e. simp (quote, quote-pos ρ, e) (by _ _ _ tt))
 
+-- n / m rounded up, as the code has it
+up-one : (m n : ℕ) → roundedDown m (pos n -ℤ pos 1) +ℤ pos 1 ≡ negℤ (roundedDown m (negℤ (pos n)))
+unfolding roundedDown
+up-one m zero = simp zero-div
+up-one m (suc n) =
+    let e : pos (suc n) -ℤ pos 1 ≡ pos n = ext (pos (suc n) -ℤ pos 1) (pos n) (omega (arith, balance-+ (pos (suc n)) (negsuc 0))) in
+    ap (λ z. roundedDown m z +ℤ pos 1) e ∙ ap pos (add-one (n / m))
+
 module _ (x : Float) (d s : ℕ) (v : IsParts x d s) where
   same-value : thousand * num x * 2 ^ s ≡ thousand * d * denominator x
   same-value = let e : num x * 2 ^ s ≡ d * denominator x = v .value ∙ ap (λ k. d * k) (den-is x) in omega arith
@@ -64,9 +74,10 @@ module _ (x : Float) (d s : ℕ) (v : IsParts x d s) where
   up-below h =
       turned (pos (thousand * num x)) (pos (thousand * d)) (sym (ap (λ w. negℤ (pos thousand *ℤ w)) (below x h) ∙ turned-twice (pos (num x)))) (ap pos same-value)
 
-  pub up-from : lt x origin ≡ false → negℤ (roundedDown (2 ^ s) (negℤ (pos (thousand * d)))) ≡ thousandthsUp x
+  pub up-from : lt x origin ≡ false → roundedDown (2 ^ s) (pos (thousand * d) -ℤ pos 1) +ℤ pos 1 ≡ thousandthsUp x
   up-from h =
-      turned (negℤ (pos (thousand * num x))) (negℤ (pos (thousand * d))) (sym (ap (λ w. negℤ (pos thousand *ℤ w)) (from-zero x h)))
+      up-one (2 ^ s) (thousand * d)
+      ∙ turned (negℤ (pos (thousand * num x))) (negℤ (pos (thousand * d))) (sym (ap (λ w. negℤ (pos thousand *ℤ w)) (from-zero x h)))
       (neg-*ℤ (pos (thousand * num x)) (pos (2 ^ s)) ∙ ap (λ k. negℤ (pos k)) same-value ∙ sym (neg-*ℤ (pos (thousand * d)) (pos (denominator x))))
 
 -- ════ against k

@@ -45,7 +45,8 @@ fn shifted_down(z: i64, shift: u64) -> i64
     if shift < 63 { z >> shift } else { z >> 63 }
 }
 
-// The least whole number of thousandths that x is at most. A shift rounds down, so what is shifted is -1000 x.
+// The least whole number of thousandths that x is at most: 1000 x rounded up. A shift rounds down, which is up for a magnitude below zero.
+// Above it, 1 less is shifted and 1 given back: n / 2^shift rounded up is one more than (n - 1) / 2^shift rounded down.
 fn thousandths_up(x: f64) -> i64
     requires { ⌜ Near x ⌝ }
     ensures { λ r. ⌜ r ≡ thousandthsUp x ⌝ }
@@ -55,7 +56,7 @@ fn thousandths_up(x: f64) -> i64
     if x < 0.0 {
         -shifted_down(n, p.shift)
     } else {
-        -shifted_down(-n, p.shift)
+        shifted_down(n - 1, p.shift) + 1
     }
 }
 

@@ -1,17 +1,17 @@
--- `thousandths::thousandths_up` meets its contract: 1000 times the digits fits, and so does what a shift leaves of it. Assumes nothing.
-use mathlib.Core.Path.{_≡_, sym, ap, _∙_, subst}
-use Prim.Native.Nat.{ℕ, _*_, _^_, _<_}
-use native.Mathlib.Nat.{lt-of-le-of-lt}
+-- `thousandths::thousandths_up` meets its contract: 1000 times the digits fits with room for 1 more, and so does what a shift leaves of it.
+-- Assumes nothing.
+use mathlib.Core.Path.{_≡_, refl, sym, ap, _∙_, subst}
+use Prim.Native.Nat.{ℕ, _+_, _*_, _^_, _≤_, _<_}
 use native.Mathlib.Omega.{arith}
-use lib.IntN.{ℤ, pos, negℤ, natAbs, _-ℤ_}
+use lib.IntN.{ℤ, pos, negℤ, natAbs, _+ℤ_, _-ℤ_, +ℤ-idl}
 use lib.Ieee.{Float, ofBits}
 use mir.Syntax.{w64}
-use mir.Val.{SFits, toZ, ofZ}
+use mir.Val.{SFits}
 use mir.Facts.{toZ-ofZ}
 use borrow.Author.Needs.{needs}
 use Rattle.whole.specs.Down.{roundedDown}
-use Rattle.whole.proofs.Magnitudes.{natAbs-neg}
-use Rattle.whole.proofs.Machine.{natAbs-sfits, neg-bits, neg-back}
+use Rattle.whole.proofs.Magnitudes.{natAbs-+, natAbs--}
+use Rattle.whole.proofs.Machine.{natAbs-sfits, op-bits, op-back}
 use Rattle.whole.proofs.Down.{down-size}
 use Rattle.thousandths.specs.Thousandths.{thousand}
 use Rattle.thousandths.specs.Steps.{IsParts}
@@ -19,29 +19,7 @@ use Rattle.thousandths.proofs.Up.{up-below, up-from}
 use Rattle.thousandths.proofs.thousandths_up.Statement.{statement}
 use Rattle.thousandths.proofs.thousandths_up.Tie as tie
 
--- ---- a number that is not the least i64, turned
-module _ (z : ℤ) (l : natAbs z < 2 ^ 63) where
-  turned-fits : SFits w64 (negℤ z)
-  turned-fits = natAbs-sfits (negℤ z) (omega (arith, natAbs-neg z))
-
-  turned-bits : SFits w64 (pos 0 -ℤ toZ w64 (ofZ w64 z))
-  turned-bits = neg-bits (natAbs-sfits z l) turned-fits
-
-  turned-back : toZ w64 (ofZ w64 (pos 0 -ℤ toZ w64 (ofZ w64 z))) ≡ negℤ z
-  turned-back = neg-back (natAbs-sfits z l) turned-fits
-
--- what a shift leaves of one, turned
-module _ (m : ℕ) (z r : ℤ) (l : natAbs z < 2 ^ 63) (e : r ≡ roundedDown m z) where
-  left : natAbs r < 2 ^ 63
-  left = subst (λ y. natAbs y < 2 ^ 63) (sym e) (lt-of-le-of-lt (down-size m z) l)
-
-  left-bits : SFits w64 (pos 0 -ℤ toZ w64 (ofZ w64 r))
-  left-bits = turned-bits r left
-
-  left-back : toZ w64 (ofZ w64 (pos 0 -ℤ toZ w64 (ofZ w64 r))) ≡ negℤ (roundedDown m z)
-  left-back = turned-back r left ∙ ap negℤ e
-
--- ---- at the code's places
+-- ---- what is shifted: n, or 1 less
 module _ (c : tie.After-struct-known) where
   abbrev x : Float
   x = c .before .before .args .x
@@ -58,18 +36,53 @@ module _ (c : tie.After-struct-known) where
   abbrev n : ℤ
   n = pos (thousand * d)
 
-  small : natAbs n < 2 ^ 63
-  small = omega (arith, parts .few)
+  room : natAbs n + 2 < 2 ^ 63
+  room = omega (arith, parts .few)
 
-  small-turned : natAbs (negℤ n) < 2 ^ 63
-  small-turned = omega (arith, natAbs-neg n, small)
+  fits : SFits w64 n
+  fits = natAbs-sfits n (omega (arith, room))
 
-down-is : (c : tie.After-shifted-down) → c .shifted-down .result ≡ roundedDown (2 ^ s (c .before .before)) (n (c .before .before))
-down-is c = let p = c .before .before in c .shifted-down .ensures ∙ ap (roundedDown (2 ^ s p)) (toZ-ofZ (natAbs-sfits (n p) (small p)))
+  less-fits : SFits w64 (n -ℤ pos 1)
+  less-fits = natAbs-sfits (n -ℤ pos 1) (omega (arith, natAbs-- n (pos 1), room))
 
-down-is-2 : (c : tie.After-shifted-down2) → c .shifted-down2 .result ≡ roundedDown (2 ^ s (c .before .before)) (negℤ (n (c .before .before)))
-down-is-2 c = let p = c .before .before in c .shifted-down2 .ensures ∙ ap (roundedDown (2 ^ s p)) (turned-back (n p) (small p))
+-- ---- what a shift leaves of it
+no-larger : (m : ℕ) (z r : ℤ) → r ≡ roundedDown m z → natAbs r ≤ natAbs z
+no-larger m z r e = subst (λ y. natAbs y ≤ natAbs z) (sym e) (down-size m z)
 
+module _ (c : tie.After-shifted-down) where
+  abbrev p : tie.After-struct-known
+  p = c .before .before
+
+  abbrev r : ℤ
+  r = c .shifted-down .result
+
+  is : r ≡ roundedDown (2 ^ s p) (n p)
+  is = c .shifted-down .ensures ∙ ap (roundedDown (2 ^ s p)) (toZ-ofZ (fits p))
+
+  r-fits : SFits w64 r
+  r-fits = record { sfits = c .shifted-down .ok }
+
+  turned-fits : SFits w64 (pos 0 -ℤ r)
+  turned-fits = natAbs-sfits (pos 0 -ℤ r) (omega (arith, natAbs-- (pos 0) r, no-larger (2 ^ s p) (n p) r is, room p))
+
+module _ (c : tie.After-shifted-down2) where
+  abbrev p₂ : tie.After-struct-known
+  p₂ = c .before .before
+
+  abbrev r₂ : ℤ
+  r₂ = c .shifted-down2 .result
+
+  is₂ : r₂ ≡ roundedDown (2 ^ s p₂) (n p₂ -ℤ pos 1)
+  is₂ = c .shifted-down2 .ensures ∙ ap (roundedDown (2 ^ s p₂)) (op-back _-ℤ_ (toZ-ofZ (fits p₂)) (refl {a = pos 1}) (less-fits p₂))
+
+  r₂-fits : SFits w64 r₂
+  r₂-fits = record { sfits = c .shifted-down2 .ok }
+
+  more-fits : SFits w64 (r₂ +ℤ pos 1)
+  more-fits =
+      natAbs-sfits (r₂ +ℤ pos 1) (omega (arith, natAbs-+ r₂ (pos 1), no-larger (2 ^ s p₂) (n p₂ -ℤ pos 1) r₂ is₂, natAbs-- (n p₂) (pos 1), room p₂))
+
+-- ---- the needs
 parts-of-requires : tie.Need-parts-of-requires
 parts-of-requires c κs = search needs
 
@@ -83,28 +96,28 @@ shifted-down-requires : tie.Need-shifted-down-requires
 shifted-down-requires c κs = search needs
 
 sub-result : tie.Need-sub-result
-sub-result c = let p = c .before .before in left-bits (2 ^ s p) (n p) _ (small p) (down-is c)
+sub-result c = op-bits _-ℤ_ (refl {a = pos 0}) (toZ-ofZ (r-fits c)) (turned-fits c)
 
 sub-shifted-down : tie.Need-sub-shifted-down
-sub-shifted-down c = turned-bits (n (c .before)) (small (c .before))
+sub-shifted-down c = op-bits _-ℤ_ (toZ-ofZ (fits (c .before))) (refl {a = pos 1}) (less-fits (c .before))
 
 shifted-down-requires-2 : tie.Need-shifted-down-requires-2
 shifted-down-requires-2 c κs = search needs
 
-sub-result-2 : tie.Need-sub-result-2
-sub-result-2 c = let p = c .before .before in left-bits (2 ^ s p) (negℤ (n p)) _ (small-turned p) (down-is-2 c)
+add-result : tie.Need-add-result
+add-result c = op-bits _+ℤ_ (toZ-ofZ (r₂-fits c)) (refl {a = pos 1}) (more-fits c)
 
 returns : tie.Need-returns
 unfolding ofBits
 returns c =
-    let p = c .before .before in
-    left-back (2 ^ s p) (n p) _ (small p) (down-is c) ∙ up-below (x p) (d p) (s p) (parts p) (c .before .if1 .taken)
+    op-back _-ℤ_ (refl {a = pos 0}) (toZ-ofZ (r-fits c)) (turned-fits c) ∙ +ℤ-idl (negℤ (r c)) ∙ ap negℤ (is c)
+    ∙ up-below (x (p c)) (d (p c)) (s (p c)) (parts (p c)) (c .before .if1 .taken)
 
 returns-2 : tie.Need-returns-2
 unfolding ofBits
 returns-2 c =
-    let p = c .before .before in
-    left-back (2 ^ s p) (negℤ (n p)) _ (small-turned p) (down-is-2 c) ∙ up-from (x p) (d p) (s p) (parts p) (c .before .if1 .left)
+    op-back _+ℤ_ (toZ-ofZ (r₂-fits c)) (refl {a = pos 1}) (more-fits c) ∙ ap (λ z. z +ℤ pos 1) (is₂ c)
+    ∙ up-from (x (p₂ c)) (d (p₂ c)) (s (p₂ c)) (parts (p₂ c)) (c .before .if1 .left)
 
 pub thousandths-up-spec : {M : Type 1} → statement M
 thousandths-up-spec =
@@ -117,6 +130,6 @@ thousandths-up-spec =
     sub-result
     sub-shifted-down
     shifted-down-requires-2
-    sub-result-2
+    add-result
     returns
     returns-2)
