@@ -19,7 +19,11 @@ use Rattle.thousandths.proofs.Up.{up-below, up-from}
 use Rattle.thousandths.proofs.thousandths_up.Statement.{statement}
 use Rattle.thousandths.proofs.thousandths_up.Tie as tie
 
--- ---- what is shifted: n, or 1 less
+-- what is taken from n before the shift, and given back after it
+abbrev one : ℤ
+one = pos 1
+
+-- ---- what is shifted
 module _ (c : tie.After-struct-known) where
   abbrev x : Float
   x = c .before .before .args .x
@@ -42,8 +46,8 @@ module _ (c : tie.After-struct-known) where
   fits : SFits w64 n
   fits = natAbs-sfits n (omega (arith, room))
 
-  less-fits : SFits w64 (n -ℤ pos 1)
-  less-fits = natAbs-sfits (n -ℤ pos 1) (omega (arith, natAbs-- n (pos 1), room))
+  less-fits : SFits w64 (n -ℤ one)
+  less-fits = natAbs-sfits (n -ℤ one) (omega (arith, natAbs-- n (one), room))
 
 -- ---- what a shift leaves of it
 no-larger : (m : ℕ) (z r : ℤ) → r ≡ roundedDown m z → natAbs r ≤ natAbs z
@@ -72,15 +76,15 @@ module _ (c : tie.After-shifted-down2) where
   abbrev r₂ : ℤ
   r₂ = c .shifted-down2 .result
 
-  is₂ : r₂ ≡ roundedDown (2 ^ s p₂) (n p₂ -ℤ pos 1)
-  is₂ = c .shifted-down2 .ensures ∙ ap (roundedDown (2 ^ s p₂)) (op-back _-ℤ_ (toZ-ofZ (fits p₂)) (refl {a = pos 1}) (less-fits p₂))
+  is₂ : r₂ ≡ roundedDown (2 ^ s p₂) (n p₂ -ℤ one)
+  is₂ = c .shifted-down2 .ensures ∙ ap (roundedDown (2 ^ s p₂)) (op-back _-ℤ_ (toZ-ofZ (fits p₂)) (refl {a = one}) (less-fits p₂))
 
   r₂-fits : SFits w64 r₂
   r₂-fits = record { sfits = c .shifted-down2 .ok }
 
-  more-fits : SFits w64 (r₂ +ℤ pos 1)
+  more-fits : SFits w64 (r₂ +ℤ one)
   more-fits =
-      natAbs-sfits (r₂ +ℤ pos 1) (omega (arith, natAbs-+ r₂ (pos 1), no-larger (2 ^ s p₂) (n p₂ -ℤ pos 1) r₂ is₂, natAbs-- (n p₂) (pos 1), room p₂))
+      natAbs-sfits (r₂ +ℤ one) (omega (arith, natAbs-+ r₂ (one), no-larger (2 ^ s p₂) (n p₂ -ℤ one) r₂ is₂, natAbs-- (n p₂) (one), room p₂))
 
 -- ---- the needs
 parts-of-requires : tie.Need-parts-of-requires
@@ -99,13 +103,13 @@ sub-result : tie.Need-sub-result
 sub-result c = op-bits _-ℤ_ (refl {a = pos 0}) (toZ-ofZ (r-fits c)) (turned-fits c)
 
 sub-shifted-down : tie.Need-sub-shifted-down
-sub-shifted-down c = op-bits _-ℤ_ (toZ-ofZ (fits (c .before))) (refl {a = pos 1}) (less-fits (c .before))
+sub-shifted-down c = op-bits _-ℤ_ (toZ-ofZ (fits (c .before))) (refl {a = one}) (less-fits (c .before))
 
 shifted-down-requires-2 : tie.Need-shifted-down-requires-2
 shifted-down-requires-2 c κs = search needs
 
 add-result : tie.Need-add-result
-add-result c = op-bits _+ℤ_ (toZ-ofZ (r₂-fits c)) (refl {a = pos 1}) (more-fits c)
+add-result c = op-bits _+ℤ_ (toZ-ofZ (r₂-fits c)) (refl {a = one}) (more-fits c)
 
 returns : tie.Need-returns
 unfolding ofBits
@@ -116,7 +120,7 @@ returns c =
 returns-2 : tie.Need-returns-2
 unfolding ofBits
 returns-2 c =
-    op-back _+ℤ_ (toZ-ofZ (r₂-fits c)) (refl {a = pos 1}) (more-fits c) ∙ ap (λ z. z +ℤ pos 1) (is₂ c)
+    op-back _+ℤ_ (toZ-ofZ (r₂-fits c)) (refl {a = one}) (more-fits c) ∙ ap (λ z. z +ℤ one) (is₂ c)
     ∙ up-from (x (p₂ c)) (d (p₂ c)) (s (p₂ c)) (parts (p₂ c)) (c .before .if1 .left)
 
 pub thousandths-up-spec : {M : Type 1} → statement M
