@@ -1,8 +1,7 @@
 -- The magnitude of a near float, from the fields of its bits.
---   field, digits   of the exponent and of the digits
---   field-near      the exponent's is below that of 2 ^ 52
---   parts-low       the digits are those kept, where the exponent's field is 0
---   parts-high      and else there is one more
+--   field, digits          the exponent's field, and the digits that are kept
+--   field-near             the field of a near float, so small that the shift, 1075 less it, is above 0
+--   parts-low, parts-high  the magnitude where the field is 0, and else with one digit before those that are kept
 use mathlib.Core.Path.{_≡_, refl, sym, ap, _∙_, subst}
 use mathlib.Core.Bool.{Bool, true, false, cond}
 use Prim.Native.Nat.{ℕ, zero, suc, _+_, _-_, _*_, _/_, _%_, _^_, _≤_, _<_}
@@ -18,11 +17,18 @@ use lib.Ieee.Scale.{finite}
 use Rattle.rounding.specs.Ready.{farthestNear, Near}
 use Rattle.thousandths.specs.Steps.{IsParts}
 
+-- where an f64 parts its digits, its exponent and its sign; the digit that a float with all its digits has before those that are kept
+abbrev leading : ℕ
+leading = 2 ^ 52
+
+abbrev sign : ℕ
+sign = 2 ^ 63
+
 abbrev pub field : Float → ℕ
-field x = toBits binary64 x % 9223372036854775808 / 4503599627370496
+field x = toBits binary64 x % sign / leading
 
 abbrev pub digits : Float → ℕ
-digits x = toBits binary64 x % 4503599627370496
+digits x = toBits binary64 x % leading
 
 -- ════ the value by the fields
 -- the magnitude of x is d times 2 ^ g of the smallest floats, of which 2 ^ 1074 make 1
@@ -31,7 +37,7 @@ Units x d g = num x * 2 ^ 1074 ≡ d * 2 ^ g * den x
 
 abbrev Fields : Float → ℕ → ℕ → Type 0
 Fields x zero t = Units x t 0
-Fields x (suc g) t = Units x (4503599627370496 + t) g
+Fields x (suc g) t = Units x (leading + t) g
 
 units : (x : Float) (s : Bool) (d g : ℕ) → HasValue x s (d * 2 ^ g) (2 ^ 1074) → Units x d g
 units nan s d g v = absurd v
@@ -47,16 +53,16 @@ unfolding ofFields
 of-fields s zero t h = units (odd 53 s t 0 1074) s t 0 (odd-sign 53 s t 0 1074)
 of-fields s (suc g) t h = go (eqb (suc g) 2047) h
   where
-    go : (b : Bool) → T (finite (cond b (cond (eqb t 0) (inf s) nan) (odd 53 s (4503599627370496 + t) g 1074)))
-        → Fields (cond b (cond (eqb t 0) (inf s) nan) (odd 53 s (4503599627370496 + t) g 1074)) (suc g) t
+    go : (b : Bool) → T (finite (cond b (cond (eqb t 0) (inf s) nan) (odd 53 s (leading + t) g 1074)))
+        → Fields (cond b (cond (eqb t 0) (inf s) nan) (odd 53 s (leading + t) g 1074)) (suc g) t
     go true h = absurd (not-special (eqb t 0) s h)
-    go false h = units (odd 53 s (4503599627370496 + t) g 1074) s (4503599627370496 + t) g (odd-sign 53 s (4503599627370496 + t) g 1074)
+    go false h = units (odd 53 s (leading + t) g 1074) s (leading + t) g (odd-sign 53 s (leading + t) g 1074)
 
 of-bits : (x : Float) → T (fits binary64 x) → T (finite x) → Fields x (field x) (digits x)
 unfolding ofBits
 of-bits x f h =
-    let back : ofFields binary64 (leb 9223372036854775808 (toBits binary64 x)) (field x) (digits x) ≡ x = ofBits-toBits binary64 x f in
-    subst (λ y. Fields y (field x) (digits x)) back (of-fields (leb 9223372036854775808 (toBits binary64 x)) (field x) (digits x) (subst (λ y. T (finite y)) (sym back) h))
+    let back : ofFields binary64 (leb sign (toBits binary64 x)) (field x) (digits x) ≡ x = ofBits-toBits binary64 x f in
+    subst (λ y. Fields y (field x) (digits x)) back (of-fields (leb sign (toBits binary64 x)) (field x) (digits x) (subst (λ y. T (finite y)) (sym back) h))
 
 -- ════ a near float's
 -- The powers are numbers of their own here, u for 2 ^ 1074: written out, they are too large for `omega`.
@@ -76,19 +82,19 @@ module _ (x : Float) where
   near : (f t : ℕ) → Near x → Fields x f t → f ≤ 1074
   near zero t n v = omega arith
   near (suc g) t n v =
-      let far : 1074 ≤ g → ⊥ = λ h. too-far (num x) (den x) (4503599627370496 + t) (2 ^ g) (2 ^ 1074) (den-pos x) (pow-pos 1074) (n .small) (omega arith) (pow-mono {i = 1074} {j = g} h) v in
+      let far : 1074 ≤ g → ⊥ = λ h. too-far (num x) (den x) (leading + t) (2 ^ g) (2 ^ 1074) (den-pos x) (pow-pos 1074) (n .small) (omega arith) (pow-mono {i = 1074} {j = g} h) v in
       omega arith
 
-  low : (f t : ℕ) → t < 4503599627370496 → f ≡ 0 → Fields x f t → IsParts x t 1074
+  low : (f t : ℕ) → t < leading → f ≡ 0 → Fields x f t → IsParts x t 1074
   low zero t l e v = parts t 0 1074 (omega arith) refl v
   low (suc g) t l e v = absurd (omega arith)
 
-  high : (f t : ℕ) → t < 4503599627370496 → (f ≡ 0 → ⊥) → f ≤ 1074 → Fields x f t → IsParts x (4503599627370496 + t) (1075 - f)
+  high : (f t : ℕ) → t < leading → (f ≡ 0 → ⊥) → f ≤ 1074 → Fields x f t → IsParts x (leading + t) (1075 - f)
   high zero t l n h v = absurd (n refl)
-  high (suc g) t l n h v = parts (4503599627370496 + t) g (1075 - suc g) (omega arith) (omega arith) v
+  high (suc g) t l n h v = parts (leading + t) g (1075 - suc g) (omega arith) (omega arith) v
 
 module _ (x : Float) (f : T (fits binary64 x)) (n : Near x) where
-  few : digits x < 4503599627370496
+  few : digits x < leading
   few = N.mod-lt (toBits binary64 x) (lit< tt)
 
   pub field-near : field x ≤ 1074
@@ -97,5 +103,5 @@ module _ (x : Float) (f : T (fits binary64 x)) (n : Near x) where
   pub parts-low : field x ≡ 0 → IsParts x (digits x) 1074
   parts-low e = low x (field x) (digits x) few e (of-bits x f (n .finite))
 
-  pub parts-high : (field x ≡ 0 → ⊥) → IsParts x (4503599627370496 + digits x) (1075 - field x)
+  pub parts-high : (field x ≡ 0 → ⊥) → IsParts x (leading + digits x) (1075 - field x)
   parts-high h = high x (field x) (digits x) few h field-near (of-bits x f (n .finite))

@@ -5,15 +5,15 @@
 use mathlib.Core.Path.{_≡_, refl, sym, ap, _∙_, subst}
 use mathlib.Core.Logic.{inl, inr}
 use mathlib.Core.Bool.{Bool, true, false, not}
-use Prim.Native.Nat.{ℕ, _*_, _≤_, _<_}
+use Prim.Native.Nat.{ℕ, _≤_, _<_}
 use native.Mathlib.Omega.{arith}
 use lib.Dec.{T, lit<}
-use lib.IntN.{ℤ, pos, natAbs, _+ℤ_, _-ℤ_, _*ℤ_}
+use lib.IntN.{ℤ, pos, _+ℤ_, _*ℤ_}
 use lib.Signed.{leZ, _≤ℤ_, _<ℤ_, leZ-yes, clashℤ}
 use lib.Ieee.{Float}
 use Rattle.whole.specs.Nearest.{twiceOff}
 use Rattle.whole.specs.Down.{roundedDown}
-use Rattle.whole.proofs.Identity.{quote, quote-pos, ring2, ring3, ring4, ring5}
+use Rattle.whole.proofs.Identity.{quote, quote-pos, ring2, ring4}
 use Rattle.whole.proofs.Linear.{zarith, quote-natAbs}
 use Rattle.whole.proofs.Order.{le-in, ≤ℤ-or-<ℤ, <ℤ-next, ≤ℤ-mul, ≤ℤ-trans}
 use Rattle.whole.proofs.Machine.{leZ-no}

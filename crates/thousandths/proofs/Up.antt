@@ -1,7 +1,7 @@
 -- A float in thousandths, rounded up.
 --   up-below, up-from   by the parts of its magnitude: below zero, and from zero on
 --   up-at-most          the float is at most k thousandths where this number is at most k
-use mathlib.Core.Path.{_≡_, refl, sym, ap, _∙_, subst}
+use mathlib.Core.Path.{_≡_, refl, sym, ap, _∙_}
 use mathlib.Core.Bool.{Bool, true, false, false≢true}
 use Prim.Native.Nat.{ℕ, zero, suc, _*_, _/_, _^_, _<_}
 use native.Mathlib.Nat.{zero-div}
@@ -80,7 +80,7 @@ module _ (x : Float) (d s : ℕ) (v : IsParts x d s) where
       ∙ turned (negℤ (pos (thousand * num x))) (negℤ (pos (thousand * d))) (sym (ap (λ w. negℤ (pos thousand *ℤ w)) (from-zero x h)))
       (neg-*ℤ (pos (thousand * num x)) (pos (2 ^ s)) ∙ ap (λ k. negℤ (pos k)) same-value ∙ sym (neg-*ℤ (pos (thousand * d)) (pos (denominator x))))
 
--- ════ against k
+-- ════ against k: with m for the denominator and z for 1000 times the numerator
 pub same-test : (s t : Bool) → (T s → T t) → (T t → T s) → s ≡ t
 same-test true true f g = refl
 same-test true false f g = absurd (f tt)

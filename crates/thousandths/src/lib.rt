@@ -6,7 +6,7 @@ ghost use Rattle.rounding.specs.Ready.{Near};
 ghost use Rattle.thousandths.specs.Thousandths.{atMostThousandths};
 ghost use Rattle.thousandths.specs.Steps.{IsParts, thousandthsUp};
 
-// An f64 keeps 52 digits in its lowest bits, the exponent in the 11 above them, and the sign in the highest.
+// An f64 keeps 52 digits in its lowest bits, the exponent's field in the 11 above them, and the sign in the highest. These are 2^52 and 2^63.
 const DIGITS: u64 = 4503599627370496;
 
 const SIGN: u64 = 9223372036854775808;
@@ -45,8 +45,8 @@ fn shifted_down(z: i64, shift: u64) -> i64
     if shift < 63 { z >> shift } else { z >> 63 }
 }
 
-// The least whole number of thousandths that x is at most: 1000 x rounded up. A shift rounds down, which is up for a magnitude below zero.
-// Above it, 1 less is shifted and 1 given back: n / 2^shift rounded up is one more than (n - 1) / 2^shift rounded down.
+// The least whole number of thousandths that x is at most: 1000 x rounded up. Below zero the magnitude is rounded down for that, as a shift does.
+// From zero on it is rounded up: n / 2^shift rounded up is one more than (n - 1) / 2^shift rounded down, at n = 0 too.
 fn thousandths_up(x: f64) -> i64
     requires { ⌜ Near x ⌝ }
     ensures { λ r. ⌜ r ≡ thousandthsUp x ⌝ }
@@ -60,7 +60,7 @@ fn thousandths_up(x: f64) -> i64
     }
 }
 
-// Whether x is at most so many thousandths.
+// Whether x is at most so many thousandths, as exact numbers: 1000 x is at most a whole number exactly where it is so when rounded up.
 pub fn at_most(x: f64, thousandths: i64) -> bool
     requires { ⌜ Near x ⌝ }
     ensures { λ r. ⌜ r ≡ atMostThousandths x thousandths ⌝ }

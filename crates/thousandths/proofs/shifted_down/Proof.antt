@@ -1,6 +1,6 @@
 -- `thousandths::shifted_down` meets its contract: a shift of an i64 rounds down, and one of 63 or more places leaves 0 or -1. Assumes nothing.
-use mathlib.Core.Path.{_≡_, refl, sym, ap, _∙_, subst}
-use Prim.Native.Nat.{ℕ, _/_, _^_, _≤_, _<_}
+use mathlib.Core.Path.{_≡_, refl, sym, ap, _∙_}
+use Prim.Native.Nat.{ℕ, _^_, _≤_, _<_}
 use native.Mathlib.Nat.{div-eq-of-lt, lt-of-le-of-lt, lt-of-lt-of-le}
 use lib.IntN.{ℤ, pos, negsuc}
 use lib.Pow.{pow-mono}
@@ -18,7 +18,7 @@ unfolding roundedDown
 shift-down m (pos n) = refl
 shift-down m (negsuc n) = refl
 
--- from m on, the divisor makes no difference to a number that it passes
+-- of a number below m, no divisor from m on leaves more than the sign
 far : (m n : ℕ) (z : ℤ) → mag z < m → m ≤ n → shrZ z m ≡ roundedDown n z
 unfolding roundedDown
 far m n (pos k) h l = ap pos (div-eq-of-lt h ∙ sym (div-eq-of-lt (lt-of-lt-of-le h l)))
