@@ -3,6 +3,7 @@ use mathlib.Core.Path.{_≡_, refl}
 use mathlib.Core.List.{List, [], _∷_, _++_, map}
 use Prim.Native.Nat.{ℕ}
 use lib.IntN.{pow, one}
+use Rattle.whole.specs.Down.{roundedDown}
 use Rattle.polynomials.specs.Sum.{sum, listed}
 use Rattle.polynomials.specs.Order.{powers, below}
 use Rattle.polynomials.specs.Group.{number, term, evaluated, given}
@@ -42,10 +43,10 @@ no-table = refl
 -- ════ the published table at `0 0 0 0 0`, whose answer the requirement prints
 pub at-zero : trimcard (48 ∷ 32 ∷ 48 ∷ 32 ∷ 48 ∷ 32 ∷ 48 ∷ 32 ∷ 48 ∷ 10 ∷ [])
     ≡ 48 ∷ 32 ∷ 45 ∷ 50 ∷ 53 ∷ 54 ∷ 54 ∷ 48 ∷ 48 ∷ 48 ∷ 48 ∷ 48 ∷ 48 ∷ 48 ∷ 48 ∷ 48 ∷ 48 ∷ 48 ∷ 48 ∷ 32 ∷ 53 ∷ 52 ∷ 48 ∷ 50 ∷ 48 ∷ 48 ∷ 48 ∷ 48 ∷ 48 ∷ 48 ∷ 48 ∷ 48 ∷ 48 ∷ 48 ∷ 48 ∷ 48 ∷ 32 ∷ 45 ∷ 51 ∷ 52 ∷ 55 ∷ 53 ∷ 48 ∷ 48 ∷ 48 ∷ 48 ∷ 48 ∷ 48 ∷ 48 ∷ 48 ∷ 48 ∷ 48 ∷ 48 ∷ 48 ∷ 48 ∷ 32 ∷ 52 ∷ 56 ∷ 55 ∷ 53 ∷ 48 ∷ 48 ∷ 48 ∷ 48 ∷ 48 ∷ 48 ∷ 48 ∷ 48 ∷ 48 ∷ 48 ∷ 48 ∷ 48 ∷ 32 ∷ 54 ∷ 50 ∷ 49 ∷ 52 ∷ 48 ∷ 48 ∷ 48 ∷ 48 ∷ 48 ∷ 48 ∷ 48 ∷ 48 ∷ 48 ∷ 48 ∷ 48 ∷ 48 ∷ 32 ∷ 52 ∷ 55 ∷ 52 ∷ 56 ∷ 48 ∷ 48 ∷ 48 ∷ 48 ∷ 48 ∷ 48 ∷ 48 ∷ 48 ∷ 48 ∷ 48 ∷ 48 ∷ 48 ∷ 10 ∷ []
-unfolding program lineAnswer parse decimal published listed sum powers below number term evaluated given total totalWeight kindsLength every allInRange good groups laidOut chosen coefficient withinCap first values readNumber readOutput pow one
+unfolding program lineAnswer parse decimal published roundedDown listed sum powers below number term evaluated given total totalWeight kindsLength every allInRange good groups laidOut chosen coefficient withinCap first values readNumber readOutput pow one
 at-zero = refl
 
 -- `1001 501 0 0 0` without a newline: alpha and beta are outside, and alpha comes first
 outside : trimcard (49 ∷ 48 ∷ 48 ∷ 49 ∷ 32 ∷ 53 ∷ 48 ∷ 49 ∷ 32 ∷ 48 ∷ 32 ∷ 48 ∷ 32 ∷ 48 ∷ []) ≡ 49 ∷ 49 ∷ 32 ∷ 48 ∷ 32 ∷ 48 ∷ 32 ∷ 48 ∷ 32 ∷ 48 ∷ 32 ∷ 48 ∷ 32 ∷ 48 ∷ 10 ∷ []
-unfolding program lineAnswer parse decimal published listed sum powers below number term evaluated given total totalWeight kindsLength every allInRange good groups laidOut chosen coefficient withinCap first values readNumber readOutput pow one
+unfolding program lineAnswer parse decimal published roundedDown listed sum powers below number term evaluated given total totalWeight kindsLength every allInRange good groups laidOut chosen coefficient withinCap first values readNumber readOutput pow one
 outside = refl

@@ -1,6 +1,8 @@
 -- What the contract of the door says, in the words of the paper. The contract gives every answer by `doorAnswer`, whose parts these are.
 --   number-told        the number, by the tests in their order
---   number-read, value-read   five finite readings are answered as the whole-number read of the rounded readings
+--   number-read        five finite readings are given the number of the whole-number read of the rounded readings
+--   value-in-piece     and the six floats are those of the piece of alpha as given, at the rounded readings
+--   value-read         which are those of the whole-number read where both choose the same piece
 --   zero-on-refusal    the six on a refusal
 --   reading-step, reading-elsewhere   the place that hands a reading back
 --   value-number, reading-number   none of the seven floats is a NaN
@@ -34,7 +36,7 @@ use Rattle.rounding.specs.declared.Step.the-variants.{Outside}
 use Rattle.rounding.proofs.Answers.{zero-positive, never-nan}
 use Rattle.door.specs.declared.Answer.{Answer}
 use Rattle.door.specs.Steps.{positiveZero, notFinite, handedBack}
-use Rattle.door.specs.Door.{roundedAll, stepAt, notFinites, outsides, doorNumber, forOutside, readingFor, doorReading, floatAt, doorValue, doorAnswer}
+use Rattle.door.specs.Door.{roundedAll, stepAt, notFinites, outsides, doorNumber, forOutside, readingFor, doorReading, truePiece, floatAt, doorValue, doorAnswer}
 use Rattle.door.proofs.Firsts.{Found, none, at, found}
 use Rattle.door.proofs.Numbers.{refusedNotFinite, refusedOutside, named-not-finite, named-outside, past-finite, back-below, back-above, back-given, zero-refused, value-done, reading-is}
 use Rattle.door.proofs.Told.{not-finite-told, outside-told, outside-step, number-step, first-same, outside-found}
@@ -90,6 +92,10 @@ module _ (t : List ℤ) (x : ℕ → Float) where
   abbrev zeros : List ℤ
   zeros = listed (cumulus .blocks) (λ b. pos 0)
 
+  -- An accepted reading is answered in the piece of alpha as given, at the rounded readings.
+  pub value-in-piece : doorNumber cumulus t x ≡ 0 → (b : ℕ) → doorValue cumulus t x b ≡ floatOf (total (coefficient cumulus t b (truePiece cumulus t (x 0))) (roundedAll x))
+  value-in-piece = value-done t x
+
   getD-values : (b : ℕ) → b < cumulus .blocks → getD (values cumulus t (roundedAll x)) b (pos 0) ≡ total (coefficient cumulus t b (pieceAt cumulus t (roundedAll x))) (roundedAll x)
   unfolding values
   getD-values b h = getD-listed (cumulus .blocks) (λ k. total (coefficient cumulus t k (pieceAt cumulus t (roundedAll x))) (roundedAll x)) b (pos 0) h
@@ -105,14 +111,14 @@ module _ (t : List ℤ) (x : ℕ → Float) where
         ∙ ap (λ q. cond (not (eqb (length t) (tableLength cumulus))) wrongTable (cond (not q) wrongOutput (rest (first (listed (cumulus .variables) plainOutside)))))
         (sym (eq-eqb (length zeros) (cumulus .blocks) (length-listed (cumulus .blocks) (λ b. pos 0))))
 
-    -- And each of the six floats is that of the number which the whole-number read leaves in six zeros.
-    pub value-read : (b : ℕ) → b < cumulus .blocks → doorValue cumulus t x b ≡ floatOf (getD (readOutput cumulus t (roundedAll x) zeros) b (pos 0))
-    value-read b h = go (decLt 0 (doorNumber cumulus t x))
+    -- And where both choose the same piece, each of the six floats is that of the number which the whole-number read leaves in six zeros.
+    pub value-read : truePiece cumulus t (x 0) ≡ pieceAt cumulus t (roundedAll x) → (b : ℕ) → b < cumulus .blocks → doorValue cumulus t x b ≡ floatOf (getD (readOutput cumulus t (roundedAll x) zeros) b (pos 0))
+    value-read p b h = go (decLt 0 (doorNumber cumulus t x))
       where
         go : Dec (0 < doorNumber cumulus t x) → doorValue cumulus t x b ≡ floatOf (getD (readOutput cumulus t (roundedAll x) zeros) b (pos 0))
         go (no n) =
             let e : doorNumber cumulus t x ≡ 0 = omega arith in
-            value-done t x e b ∙ ap floatOf (sym (getD-values b h)) ∙ ap (λ l. floatOf (getD l b (pos 0))) (sym (read-given cumulus t (roundedAll x) zeros (sym number-read ∙ e)))
+            value-done t x e b ∙ ap (λ q. floatOf (total (coefficient cumulus t b q) (roundedAll x))) p ∙ ap floatOf (sym (getD-values b h)) ∙ ap (λ l. floatOf (getD l b (pos 0))) (sym (read-given cumulus t (roundedAll x) zeros (sym number-read ∙ e)))
         go (yes n) =
             zero-refused t x (doorNumber cumulus t x) refl n b ∙ sym zero-positive ∙ ap floatOf (sym (getD-listed (cumulus .blocks) (λ k. pos 0) b (pos 0) h))
             ∙ ap (λ l. floatOf (getD l b (pos 0))) (sym (read-kept cumulus t (roundedAll x) zeros (sym number-read) n))
@@ -142,8 +148,8 @@ module _ (t : List ℤ) (x : ℕ → Float) where
   unfolding doorValue isNan
   value-number b = go (eqb (doorNumber cumulus t x) 0)
     where
-      go : (c : Bool) → isNan (cond c (floatAt cumulus t (roundedAll x) b) positiveZero) ≡ false
-      go true = never-nan (total (coefficient cumulus t b (pieceAt cumulus t (roundedAll x))) (roundedAll x))
+      go : (c : Bool) → isNan (cond c (floatAt cumulus t (truePiece cumulus t (x 0)) (roundedAll x) b) positiveZero) ≡ false
+      go true = never-nan (total (coefficient cumulus t b (truePiece cumulus t (x 0))) (roundedAll x))
       go false = refl
 
   pub reading-number : isNan (doorReading cumulus t x) ≡ false

@@ -3,6 +3,7 @@
 --   Firsts    the first refusal of a list, or none
 --   Numbers   which number is given back, from the tests one after another, and the answer with it
 --   Wholes    the readings where no step refuses
+--   Pieces    the piece of a reading as it was given
 --   Told      the steps, told by the floats themselves
 --   Answers   what the contract says, in the words of the paper
 --   Controls  computed facts beside the definitions
@@ -10,6 +11,7 @@ pub mod Cases
 pub mod Firsts
 pub mod Numbers
 pub mod Wholes
+pub mod Pieces
 pub mod Told
 pub mod Answers
 pub mod Controls

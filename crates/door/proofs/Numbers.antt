@@ -26,7 +26,7 @@ use Rattle.tables.proofs.Steps.{first-apart}
 use Rattle.rounding.specs.declared.Step.{Step}
 use Rattle.rounding.specs.declared.Step.the-variants.{Whole, NotFinite, Outside}
 use Rattle.door.specs.Steps.{positiveZero, notFinite, numberOf, handedBack, isNotFinite, isOutside}
-use Rattle.door.specs.Door.{roundedAll, stepAt, notFinites, outsides, doorNumber, forOutside, readingFor, doorReading, floatAt, doorValue, answerWith, doorAnswer, refusedWith}
+use Rattle.door.specs.Door.{roundedAll, stepAt, notFinites, outsides, doorNumber, forOutside, readingFor, doorReading, truePiece, floatAt, doorValue, answerWith, doorAnswer, refusedWith}
 use Rattle.door.proofs.Firsts.{Found, none, at, found}
 
 -- ---- the refusals of steps
@@ -125,7 +125,7 @@ module _ (t : List ℤ) (x : ℕ → Float) where
 
   -- ---- the answer
   abbrev value : ℕ → Float
-  value b = floatAt cumulus t (roundedAll x) b
+  value b = floatAt cumulus t (truePiece cumulus t (x 0)) (roundedAll x) b
 
   pub zero-refused : (n : ℕ) → doorNumber cumulus t x ≡ n → 0 < n → (b : ℕ) → doorValue cumulus t x b ≡ positiveZero
   unfolding doorValue

@@ -9,14 +9,14 @@ use lib.Ieee.{Float, nan}
 use Rattle.polynomials.specs.Sum.{listed}
 use Rattle.polynomials.specs.Groups.{total}
 use Rattle.layout.specs.Shape.{Shape, tableLength, cumulus}
-use Rattle.layout.specs.Limits.{lowest, highest, good}
-use Rattle.layout.specs.Blocks.{coefficient}
+use Rattle.layout.specs.Limits.{lowest, highest, fineCut, good}
+use Rattle.layout.specs.Blocks.{Piece, low, high, coefficient}
 use Rattle.layout.specs.Sound.{light}
 use Rattle.layout.specs.Refusals.{Refusal, _when_, first, unlessRefused, wrongTable, badLimits, tooHeavy, outside}
-use Rattle.layout.specs.Reading.{pieceAt}
 use Rattle.rounding.specs.Reading.{wholeOf, stepOf}
 use Rattle.rounding.specs.Answer.{floatOf}
 use Rattle.rounding.specs.declared.Step.{Step}
+use Rattle.thousandths.specs.Thousandths.{atMostThousandths}
 use Rattle.door.specs.Steps.{positiveZero, numberOf, handedBack, isNotFinite, isOutside}
 use Rattle.door.specs.declared.Answer.{Answer}
 
@@ -62,12 +62,16 @@ readingFor S s n = cond (forOutside S n) (handedBack (s (n - outside S 0))) posi
 unfoldable pub doorReading : Shape → List ℤ → (ℕ → Float) → Float
 doorReading S t x = readingFor S (stepAt S t x) (doorNumber S t x)
 
--- the float of block b: the whole-number answer at the rounded readings, whose piece they choose; positive zero on a refusal
-abbrev pub floatAt : Shape → List ℤ → (ℕ → ℤ) → ℕ → Float
-floatAt S t w b = floatOf (total (coefficient S t b (pieceAt S t w)) w)
+-- the piece is that of the reading as given: the low one holds up to the fine cut, which is in thousandths
+abbrev pub truePiece : Shape → List ℤ → Float → Piece
+truePiece S t x = cond (atMostThousandths x (fineCut S t)) low high
+
+-- the float of block b: that piece's answer at the rounded readings; positive zero on a refusal
+abbrev pub floatAt : Shape → List ℤ → Piece → (ℕ → ℤ) → ℕ → Float
+floatAt S t p w b = floatOf (total (coefficient S t b p) w)
 
 unfoldable pub doorValue : Shape → List ℤ → (ℕ → Float) → ℕ → Float
-doorValue S t x b = unlessRefused (doorNumber S t x) (floatAt S t (roundedAll x) b) positiveZero
+doorValue S t x b = unlessRefused (doorNumber S t x) (floatAt S t (truePiece S t (x 0)) (roundedAll x) b) positiveZero
 
 -- number, reading and the six floats of X, Y, Z, l, m and n
 abbrev pub answerWith : ℕ → Float → (ℕ → Float) → Answer

@@ -1,16 +1,18 @@
 // Reading a table at a state of floats.
 ghost use mathlib.Core.Path.{_≡_};
-ghost use mathlib.Core.Bool.{true};
+ghost use mathlib.Core.Bool.{true, cond};
 ghost use Prim.Native.Nat.{ℕ, _<_};
 ghost use Rattle.polynomials.specs.Sum.{listed};
 ghost use Rattle.polynomials.specs.Groups.{total};
 ghost use Rattle.layout.specs.declared.Model.the-variants.{Cumulus};
 ghost use Rattle.layout.specs.Shape.{cumulus};
-ghost use Rattle.layout.specs.Limits.{allInRange};
+ghost use Rattle.layout.specs.Limits.{fineCut, allInRange};
 ghost use Rattle.layout.specs.Blocks.{coefficient, piece as pieceOf};
 ghost use Rattle.layout.specs.Refusals.{first};
 ghost use Rattle.layout.specs.Reading.{readings as wholes};
 ghost use Rattle.rounding.specs.Answer.{floatOf};
+ghost use Rattle.rounding.specs.Ready.{Near};
+ghost use Rattle.thousandths.specs.Thousandths.{atMostThousandths};
 ghost use Rattle.blocks.specs.Ready.{Valued};
 ghost use Rattle.door.specs.Steps.{positiveZero, wholeIn, stepsOf};
 ghost use Rattle.door.specs.Door.{floats, stepAt, notFinites, outsides, readingFor, answerWith, refusedWith, doorAnswer};
@@ -19,6 +21,8 @@ use layout::cumulus_one::VARIABLES;
 use layout::refusals::DONE;
 use layout::refusals::NOT_FINITE;
 use layout::refusals::OUTSIDE;
+use limits::HIGH;
+use limits::LOW;
 use limits::Limits;
 use rounding::Step;
 use tables::soundness::refusal_of;
@@ -123,6 +127,17 @@ fn wholes_in(steps: [Step; VARIABLES]) -> [i64; VARIABLES]
     state
 }
 
+// The piece that a reading belongs to as it was given, before it is rounded.
+fn true_piece(limits: Limits, alpha: f64) -> usize
+    requires { ⌜ (limits .model ≡ Cumulus) × Near alpha ⌝ }
+    ensures { λ r. ⌜ r ≡ cond (atMostThousandths alpha (fineCut cumulus (limits .numbers))) 0 1 ⌝ }
+{
+    if thousandths::at_most(alpha, limits.fine_cut()) {
+        return LOW;
+    }
+    HIGH
+}
+
 // The float of one coefficient at whole readings, in the low piece (0) or the high one.
 fn float_at(table: &[i64], block: usize, piece: usize, state: [i64; VARIABLES]) -> f64
     requires { ⌜ Valued cumulus (now table) block piece state ⌝ }
@@ -150,7 +165,7 @@ fn answered(table: &[i64], piece: usize, state: [i64; VARIABLES]) -> Answer
 }
 
 // Reads the six coefficients of a table at a state of five floats in milliradians, each rounded to the nearest whole number
-// (half away from zero) before anything else looks at it; or refuses, with six zeros.
+// (half away from zero); or refuses, with six zeros. Alpha as given decides which piece is read at the rounded readings.
 pub fn read_floats(table: &[i64], readings: [f64; VARIABLES]) -> Answer
     ensures { λ r. ⌜ r ≡ doorAnswer (now (table .entry)) (floats readings) ⌝ }
 {
@@ -169,6 +184,6 @@ pub fn read_floats(table: &[i64], readings: [f64; VARIABLES]) -> Answer
         return past;
     }
     let state = wholes_in(steps);
-    let piece = limits.piece(state[0]);
+    let piece = true_piece(limits, readings[0]);
     answered(table, piece, state)
 }

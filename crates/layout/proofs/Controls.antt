@@ -26,42 +26,42 @@ use Rattle.layout.specs.Moving.{owner, joined, movedLimit, movedLimits, 
 use Rattle.layout.specs.Accepted.{ReadAccepted, MoveAccepted}
 
 -- ════ the places of a Cumulus One table
-lengths : limitsLength cumulus ∷ blockLength cumulus ∷ tableLength cumulus ∷ [] ≡ 11 ∷ 50 ∷ 311 ∷ []
+lengths : limitsLength cumulus ∷ blockLength cumulus ∷ tableLength cumulus ∷ [] ≡ 12 ∷ 50 ∷ 312 ∷ []
 unfolding kindsLength below
 lengths = refl
 
-named : limitsSize ∷ pitchSize ∷ sideSize ∷ blockSize ∷ tableSize ∷ [] ≡ 11 ∷ size 3 ∷ size 4 ∷ 50 ∷ 311 ∷ []
+named : limitsSize ∷ pitchSize ∷ sideSize ∷ blockSize ∷ tableSize ∷ [] ≡ 12 ∷ size 3 ∷ size 4 ∷ 50 ∷ 312 ∷ []
 unfolding below
 named = refl
 
-rooms : variablesRoom ∷ limitsRoom ∷ reachesRoom ∷ [] ≡ 5 ∷ 11 ∷ 6 ∷ []
+rooms : variablesRoom ∷ limitsRoom ∷ reachesRoom ∷ [] ≡ 5 ∷ 12 ∷ 6 ∷ []
 rooms = refl
 
 refused-by : listed 5 (outside cumulus) ≡ 11 ∷ 12 ∷ 13 ∷ 14 ∷ 15 ∷ []
 unfolding listed
 refused-by = refl
 
-starts : map (blockStart cumulus) (0 ∷ 1 ∷ 2 ∷ 3 ∷ 4 ∷ 5 ∷ []) ≡ 11 ∷ 61 ∷ 111 ∷ 161 ∷ 211 ∷ 261 ∷ []
+starts : map (blockStart cumulus) (0 ∷ 1 ∷ 2 ∷ 3 ∷ 4 ∷ 5 ∷ []) ≡ 12 ∷ 62 ∷ 112 ∷ 162 ∷ 212 ∷ 262 ∷ []
 unfolding kindsLength below
 starts = refl
 
-lowests : listed 5 (lowestPlace cumulus) ≡ 0 ∷ 3 ∷ 5 ∷ 7 ∷ 9 ∷ []
+lowests : listed 5 (lowestPlace cumulus) ≡ 0 ∷ 4 ∷ 6 ∷ 8 ∷ 10 ∷ []
 unfolding listed
 lowests = refl
 
-highests : listed 5 (highestPlace cumulus) ≡ 2 ∷ 4 ∷ 6 ∷ 8 ∷ 10 ∷ []
+highests : listed 5 (highestPlace cumulus) ≡ 2 ∷ 5 ∷ 7 ∷ 9 ∷ 11 ∷ []
 unfolding listed
 highests = refl
 
--- alpha owns its cut too
-owners : listed 11 (owner cumulus) ≡ 0 ∷ 0 ∷ 0 ∷ 1 ∷ 1 ∷ 2 ∷ 2 ∷ 3 ∷ 3 ∷ 4 ∷ 4 ∷ []
+-- alpha owns its cuts too
+owners : listed 12 (owner cumulus) ≡ 0 ∷ 0 ∷ 0 ∷ 0 ∷ 1 ∷ 1 ∷ 2 ∷ 2 ∷ 3 ∷ 3 ∷ 4 ∷ 4 ∷ []
 unfolding listed
 owners = refl
 
 -- X is alpha + 10 eta up to the cut and 100 alpha + 1000 eta above it, and in both 10^4 beta + 10^5 xi + 10^6 beta + 10^7 zeta
 abbrev oneOfEach : List ℤ
 oneOfEach =
-    replicate 11 (pos 0)
+    replicate 12 (pos 0)
     ++ (pos 0 ∷ pos 1 ∷ pos 10 ∷ replicate 7 (pos 0))
     ++ (pos 0 ∷ pos 100 ∷ pos 1_000 ∷ replicate 7 (pos 0))
     ++ (pos 0 ∷ pos 10_000 ∷ pos 100_000 ∷ replicate 12 (pos 0))
@@ -269,13 +269,13 @@ move-order : moveGives [] 2 (pos 1991) 0
 unfolding moveGives
 move-order = refl
 
--- the lengths that a Cumulus One table asks for: 311 and 6 for a read, 311 twice for a move, and variables up to 4. Zeros are no good limits
-lengths-asked : readNumber cumulus (replicate 310 (pos 0)) (readings []) (replicate 6 (pos 0))
-    ∷ readNumber cumulus (replicate 311 (pos 0)) (readings []) (replicate 5 (pos 0))
-    ∷ readNumber cumulus (replicate 311 (pos 0)) (readings []) (replicate 6 (pos 0))
-    ∷ moveNumber cumulus (replicate 311 (pos 0)) 4 (pos 0) (replicate 310 (pos 0))
-    ∷ moveNumber cumulus (replicate 311 (pos 0)) 5 (pos 0) (replicate 311 (pos 0))
-    ∷ moveNumber cumulus (replicate 311 (pos 0)) 4 (pos 0) (replicate 311 (pos 0))
+-- the lengths that a Cumulus One table asks for: 312 and 6 for a read, 312 twice for a move, and variables up to 4. Zeros are no good limits
+lengths-asked : readNumber cumulus (replicate 311 (pos 0)) (readings []) (replicate 6 (pos 0))
+    ∷ readNumber cumulus (replicate 312 (pos 0)) (readings []) (replicate 5 (pos 0))
+    ∷ readNumber cumulus (replicate 312 (pos 0)) (readings []) (replicate 6 (pos 0))
+    ∷ moveNumber cumulus (replicate 312 (pos 0)) 4 (pos 0) (replicate 311 (pos 0))
+    ∷ moveNumber cumulus (replicate 312 (pos 0)) 5 (pos 0) (replicate 312 (pos 0))
+    ∷ moveNumber cumulus (replicate 312 (pos 0)) 4 (pos 0) (replicate 312 (pos 0))
     ∷ length (values cumulus [] (readings []))
     ∷ []
     ≡ 1 ∷ 2 ∷ 3 ∷ 2 ∷ 5 ∷ 3 ∷ 6 ∷ []
@@ -303,8 +303,8 @@ unfolding sum listed powers below choose number term evaluated given movedNumber
 move-output = refl
 
 -- ════ places of groups, and how far a shift goes
--- in the block that starts at 11: the low and the high group, then those that count in both pieces
-group-places : map (ownAt cumulus 11) (0 ∷ 1 ∷ []) ∷ (sharedAt cumulus 11 ∷ []) ∷ [] ≡ (11 ∷ 21 ∷ []) ∷ (31 ∷ []) ∷ []
+-- in the block that starts at 12: the low and the high group, then those that count in both pieces
+group-places : map (ownAt cumulus 12) (0 ∷ 1 ∷ []) ∷ (sharedAt cumulus 12 ∷ []) ∷ [] ≡ (12 ∷ 22 ∷ []) ∷ (32 ∷ []) ∷ []
 unfolding below
 group-places = refl
 

@@ -3,10 +3,10 @@ pub const VARIABLES: usize = 5;
 
 pub const BLOCKS: usize = 6;
 
-// How many fine cuts alpha has: its cut once more, in thousandths.
-pub const FINE_CUTS: usize = 0;
+// Alpha has a fine cut: its cut once more, in thousandths.
+pub const FINE_CUTS: usize = 1;
 
-// The limits come first: lowest and highest of each variable, and the cut of alpha.
+// The limits come first: lowest and highest of each variable, and the cut and the fine cut of alpha.
 pub const LIMITS: usize = 1 + FINE_CUTS + 2 * VARIABLES;
 
 // Then the blocks. In a block: the low and the high group in alpha and eta, then the side groups in beta and xi and in beta and zeta.

@@ -3,6 +3,7 @@ pub const VARIABLES: usize = 2;
 
 pub const BLOCKS: usize = 3;
 
+// Alpha has its cut alone.
 pub const FINE_CUTS: usize = 0;
 
 pub const LIMITS: usize = 1 + FINE_CUTS + 2 * VARIABLES;

@@ -14,7 +14,7 @@ ghost use lib.Signed.{leZ, ltZ};
 ghost use Rattle.polynomials.specs.Sum.{listed};
 ghost use Rattle.layout.specs.Shape.{shape, limitsLength};
 ghost use Rattle.layout.specs.Numbers.{variablesRoom, limitsRoom};
-ghost use Rattle.layout.specs.Limits.{every, lowest, highest, cut, isFineCut, longestShift, inRange, allInRange, inOrder, cutsAgree, good};
+ghost use Rattle.layout.specs.Limits.{every, lowest, highest, cut, fineCut, isFineCut, longestShift, inRange, allInRange, inOrder, cutsAgree, good};
 ghost use Rattle.layout.specs.Blocks.{piece as pieceOf};
 ghost use Rattle.layout.specs.Sound.{span, lowEnd, highStart, reach};
 ghost use Rattle.layout.specs.Reaches.{listedReaches};
@@ -37,9 +37,9 @@ const FINE_CUT: usize = 3;
 const THOUSAND: i64 = 1000;
 
 // The pieces, as they are counted.
-const LOW: usize = 0;
+pub const LOW: usize = 0;
 
-const HIGH: usize = 1;
+pub const HIGH: usize = 1;
 
 // The first numbers of a model's table, as many as any model has limits: its own come first.
 pub struct Limits {
@@ -343,6 +343,13 @@ impl Limits {
             i += 1;
         }
         DONE
+    }
+
+    // The fine cut of variable 0, where the model has one.
+    pub fn fine_cut(self) -> i64
+        ensures { λ r. ⌜ r ≡ fineCut (shape (self .model)) (self .numbers) ⌝ }
+    {
+        self.at(FINE_CUT)
     }
 
     // The piece that a reading of variable 0 lies in.

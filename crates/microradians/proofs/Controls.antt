@@ -50,11 +50,12 @@ hand-group : valueAt C-X hand 0 ≡ pos 38_707_895
 unfolding down nearestAway below
 hand-group = refl
 
--- ════ limits: the envelope times 1000, and the cut
+-- ════ limits: the envelope times 1000, and the cut; what stands in the place of a fine cut is not read
 limits-read : fineLimits
     ≡ negℤ (pos 150_000)
     ∷ pos 313_269
     ∷ pos 1_000_000
+    ∷ pos 313_269_000
     ∷ negℤ (pos 500_000)
     ∷ pos 500_000
     ∷ negℤ (pos 200_000)

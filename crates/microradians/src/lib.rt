@@ -1,7 +1,6 @@
 // The published table read in microradians: fixed point in units of 10^-9, one rounding for each multiplication.
 mod numbers;
 
-use cumulus::CUT_MICRORADIANS;
 use cumulus::PUBLISHED;
 use layout::Model;
 use layout::cumulus_one::BLOCKS;
@@ -41,10 +40,10 @@ const XI: usize = 2;
 
 const ZETA: usize = 3;
 
-// The envelope in microradians, as a table has its limits.
+// The envelope in microradians, as a table has its limits: its cut is the fine cut in milliradians.
 const FINE_ENVELOPE: [i64; LIMITS] = [
     MILLIRADIAN * PUBLISHED[0],
-    CUT_MICRORADIANS,
+    PUBLISHED[3],
     MILLIRADIAN * PUBLISHED[2],
     MILLIRADIAN * PUBLISHED[3],
     MILLIRADIAN * PUBLISHED[4],
@@ -54,6 +53,7 @@ const FINE_ENVELOPE: [i64; LIMITS] = [
     MILLIRADIAN * PUBLISHED[8],
     MILLIRADIAN * PUBLISHED[9],
     MILLIRADIAN * PUBLISHED[10],
+    MILLIRADIAN * PUBLISHED[11],
 ];
 
 // A number times a reading, to the nearest whole number, a half away from zero.

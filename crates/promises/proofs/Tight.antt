@@ -41,6 +41,7 @@ use Rattle.cumulus.proofs as cumulus
 use Rattle.gtm.proofs as gtm
 use Rattle.microradians.proofs as microradians
 use Rattle.rounding.proofs as rounding
+use Rattle.thousandths.proofs as thousandths
 use Rattle.door.proofs as door
 use Rattle.clochecloak.proofs as clochecloak
 use Rattle.lines.proofs as lines
@@ -137,6 +138,12 @@ shape-blocks-tight κs a o p = tight o p (search same)
 pub shape-groups-tight : Tight shapes.groups.ended shapes.groups.Reads.Post
 shape-groups-tight κs a o p = tight o p (search same)
 
+pub shape-fine-cuts-tight : Tight shapes.fine_cuts.ended shapes.fine_cuts.Reads.Post
+shape-fine-cuts-tight κs a o p = tight o p (search same)
+
+pub shape-has-fine-cut-tight : Tight shapes.has_fine_cut.ended shapes.has_fine_cut.Reads.Post
+shape-has-fine-cut-tight κs a o p = tight o p (search same)
+
 pub shape-limits-tight : Tight shapes.limits.ended shapes.limits.Reads.Post
 shape-limits-tight κs a o p = tight o p (search same)
 
@@ -161,6 +168,9 @@ same-limits h k i = record { model = same (h .0) (k .0) i; numbers = same (h .1)
 
 pub limits-of-tight : Tight limits.Limits.of.ended limits.Limits.of.Reads.Post
 limits-of-tight κs a o p = tight o p (same-limits (o .allowed) (p .allowed), tt)
+
+pub limits-fine-cut-tight : Tight limits.Limits.fine_cut.ended limits.Limits.fine_cut.Reads.Post
+limits-fine-cut-tight κs a o p = tight o p (search same)
 
 pub limits-lowest-tight : Tight limits.Limits.lowest.ended limits.Limits.lowest.Reads.Post
 limits-lowest-tight κs a o p = tight o p (search same)
@@ -248,6 +258,9 @@ pub read-microradians-tight : Tight microradians.read.ended microradians.read.Re
 read-microradians-tight κs a o p = tight o p (search same)
 
 -- ════ rounding
+pub at-most-tight : Tight thousandths.at_most.ended thousandths.at_most.Reads.Post
+at-most-tight κs a o p = tight o p (search same)
+
 pub step-of-tight : Tight rounding.step_of.ended rounding.step_of.Reads.Post
 step-of-tight κs a o p = tight o p (search same)
 

@@ -1,4 +1,5 @@
 -- What a step is, by where the reading lies, and where the reading lies, by what its step is.
+--   not-le                                                 what is above is not at most
 --   step-is                                                all of it in one equation
 --   zero-step                                              both zeros read as 0
 --   step-not-finite, step-below, step-above, step-inside   each of the four places
@@ -29,7 +30,7 @@ neither : (s : Bool) → (s && false) ≡ false
 neither true = refl
 neither false = refl
 
-not-le : {a b : ℤ} → a <ℤ b → leZ b a ≡ false
+pub not-le : {a b : ℤ} → a <ℤ b → leZ b a ≡ false
 not-le {a} {b} h = fails (leZ b a) (λ t. clashℤ h (leZ-yes t))
 
 pub step-is : (x : Float) (lowest highest : ℤ)

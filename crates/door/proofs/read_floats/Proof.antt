@@ -1,39 +1,37 @@
 -- `door::read_floats` meets its contract: each way out is the first refusal that holds, and the last gives the six floats. Assumes nothing.
 use mathlib.Core.Path.{_≡_, refl, sym, _∙_, ap, ap₂, subst, fun-ext}
-use mathlib.Core.Bool.{Bool, true, false, cond, _&&_}
+use mathlib.Core.Bool.{Bool, true, cond}
 use mathlib.Core.List.{List, _++_}
 use Prim.Native.Nat.{ℕ, _<_}
 use native.Mathlib.Omega.{arith}
-use borrow.Author.Needs.{needs, sfits-of}
+use borrow.Author.Needs.{needs}
 use lib.IntN.{ℤ, pos}
 use lib.ListN.{length, getD}
-use lib.Signed.{leZ}
 use lib.Ieee.{Float, ofBits}
-use mir.Facts.{toZ-ofZ}
 use Rattle.polynomials.specs.Sum.{listed}
 use Rattle.polynomials.specs.Groups.{total}
 use Rattle.polynomials.proofs.Listed.{length-listed, getD-listed, listed-ext}
 use Rattle.layout.specs.declared.Model.the-variants.{Cumulus}
 use Rattle.layout.specs.Shape.{cumulus, tableLength}
-use Rattle.layout.specs.Limits.{lowest, highest, cut, good, allInRange}
-use Rattle.layout.specs.Blocks.{low, high, piece, coefficient}
+use Rattle.layout.specs.Limits.{fineCut, good, allInRange}
+use Rattle.layout.specs.Blocks.{piece, coefficient}
 use Rattle.layout.specs.Sound.{light}
 use Rattle.layout.specs.Refusals.{first, _when_}
-use Rattle.layout.specs.Reading.{readings, pieceAt}
-use Rattle.layout.specs.Accepted.{ReadAccepted}
+use Rattle.layout.specs.Reading.{readings, inside}
 use Rattle.layout.proofs.Fine.{well-formed}
 use Rattle.laws.proofs.Weights.{total-agreed}
-use Rattle.laws.proofs.LimitLaws.{limits-take, lowest-same, highest-same, allInRange-same, good-facts, counted-half, counted-piece}
-use Rattle.tables.proofs.Taken.{cut-taken}
-use Rattle.tables.proofs.Steps.{first-apart, known-sound, valued, positive}
+use Rattle.laws.proofs.LimitLaws.{limits-take, lowest-same, highest-same, fine-same, allInRange-same, good-facts, counted-half, counted-piece}
+use Rattle.tables.proofs.Steps.{first-apart, known-sound, valued-in, positive}
 use Rattle.rounding.specs.Reading.{stepOf}
 use Rattle.rounding.specs.Answer.{floatOf}
+use Rattle.thousandths.specs.Thousandths.{atMostThousandths}
 use Rattle.rounding.specs.declared.Step.{Step}
 use Rattle.rounding.specs.declared.Step.the-variants.{Whole}
 use Rattle.door.specs.Steps.{positiveZero, numberOf, wholeIn, isNotFinite, isOutside, stepsOf}
-use Rattle.door.specs.Door.{floats, roundedAll, stepAt, notFinites, outsides, doorNumber, readingFor, answerWith}
+use Rattle.door.specs.Door.{floats, roundedAll, stepAt, notFinites, outsides, doorNumber, readingFor, truePiece, answerWith}
 use Rattle.door.proofs.Numbers.{door-refused, door-sound, table-small, not-finite-number, past-finite, back-below, back-above, back-agreed, refused-answer, done-answer}
-use Rattle.door.proofs.Wholes.{step-whole, rounded-inside}
+use Rattle.door.proofs.Wholes.{step-finite, step-whole, rounded-inside}
+use Rattle.door.proofs.Pieces.{near-alpha, within-piece}
 use Rattle.door.proofs.read_floats.Statement.{statement}
 use Rattle.door.proofs.read_floats.Tie as tie
 
@@ -46,7 +44,7 @@ module _ (c : tie.Else1) where
   t = start .args .table .now
 
   abbrev x : ℕ → Float
-  x = floats (start .args .readings)
+  x = floats (start .args .t2)
 
   abbrev s : ℕ → Step
   s = stepAt cumulus t x
@@ -116,34 +114,31 @@ module _ (c : tie.After-wholes-in) where
       ap (λ l. getD l i (pos 0)) (c .wholes-in .ensures) ∙ getD-listed (cumulus .variables) (λ k. wholeIn (stepsOf (steps past .steps-of .result) k)) i (pos 0) h
       ∙ ap wholeIn (step-is (steps past) i h ∙ step-whole (t d) (x d) (finite past) within i h)
 
-  readable : ReadAccepted cumulus (t d) w (listed (cumulus .blocks) (λ b. pos 0))
-  readable = record {
-    table = known d .0;
-    output = length-listed (cumulus .blocks) (λ b. pos 0);
-    limits = known d .1 .0;
-    weights = known d .1 .1;
-    readings = λ i h. ap (λ z. leZ (lowest cumulus (t d) i) z && leZ z (highest cumulus (t d) i)) (state-is i h) ∙ rounded-inside (t d) (x d) (finite past) within i h;
-  }
+  in-limits : (i : ℕ) → i < cumulus .variables → inside cumulus (t d) (roundedAll (x d)) i ≡ true
+  in-limits = rounded-inside (t d) (x d) (finite past) within
 
 -- ---- the piece
-module _ (c : tie.After-piece) where
+module _ (c : tie.After-true-piece) where
   abbrev all : tie.After-wholes-in
-  all = c .before .before
+  all = c .before
 
   abbrev n : ℕ
-  n = c .piece .result
+  n = c .true-piece .result
 
-  piece-number : n ≡ cond (leZ (w all 0) (cut cumulus (t (d all)))) 0 1
+  abbrev low-is : Bool
+  low-is = atMostThousandths (x (d all) 0) (fineCut cumulus (t (d all)))
+
+  piece-number : n ≡ cond low-is 0 1
   piece-number =
       let o = steps (past all) .before .of in
-      c .piece .ensures
-      ∙ ap (λ b. cond b 0 1) (ap₂ leZ (toZ-ofZ (sfits-of {z = w all 0} (c .before .piece-arg .given))) (cut-taken Cumulus (t (d all)) (o .result) (o .ensures)))
+      c .true-piece .ensures
+      ∙ ap (λ k. cond (atMostThousandths (x (d all) 0) k) 0 1) (ap (fineCut cumulus) (o .ensures .1) ∙ fine-same (limits-take cumulus (t (d all))) refl (omega arith))
 
   half : n < 2
-  half = counted-half (leZ (w all 0) (cut cumulus (t (d all)))) piece-number
+  half = counted-half low-is piece-number
 
-  piece-is : pieceAt cumulus (t (d all)) (w all) ≡ piece n
-  piece-is = counted-piece (leZ (w all 0) (cut cumulus (t (d all)))) piece-number
+  piece-is : truePiece cumulus (t (d all)) (x (d all) 0) ≡ piece n
+  piece-is = counted-piece low-is piece-number
 
 refusal-of-requires : tie.Need-refusal-of-requires
 refusal-of-requires c κs = tt
@@ -158,8 +153,8 @@ returns c =
     let a = r .before .args in
     let n = r .refusal-of .result in
     c .refused .ensures
-    ∙ refused-answer (a .table .now) (floats (a .readings)) n positiveZero (door-refused (a .table .now) (floats (a .readings)) n (r .refusal-of .ensures) (c .before .if1 .taken)) (positive (c .before .if1 .taken))
-    (back-below (stepAt cumulus (a .table .now) (floats (a .readings))) n (subst (λ k. k < 11) (sym (r .refusal-of .ensures)) (table-small (a .table .now))))
+    ∙ refused-answer (a .table .now) (floats (a .t2)) n positiveZero (door-refused (a .table .now) (floats (a .t2)) n (r .refusal-of .ensures) (c .before .if1 .taken)) (positive (c .before .if1 .taken))
+    (back-below (stepAt cumulus (a .table .now) (floats (a .t2))) n (subst (λ k. k < 11) (sym (r .refusal-of .ensures)) (table-small (a .table .now))))
 
 of-requires : tie.Need-of-requires
 of-requires c κs = omega (arith, known c .0)
@@ -202,28 +197,29 @@ returns-3 c =
 wholes-in-requires : tie.Need-wholes-in-requires
 wholes-in-requires c κs = tt
 
-array-copy-out-piece : tie.Need-array-copy-out-piece
-array-copy-out-piece c = search needs
+array-read-true-piece : tie.Need-array-read-true-piece
+array-read-true-piece c = search needs
 
-piece-requires : tie.Need-piece-requires
-piece-requires c κs = tt
+true-piece-requires : tie.Need-true-piece-requires
+true-piece-requires c κs =
+    (steps (past c) .before .of .ensures .0, near-alpha (t (d c)) (x (d c)) (known (d c) .1 .0) (in-limits c) (step-finite (t (d c)) (x (d c)) (finite (past c)) (within c) 0 (omega arith)))
 
 answered-requires : tie.Need-answered-requires
 answered-requires c κs =
     let a = all c in
     let state = a .wholes-in .result in
-    valued cumulus (t (d a)) (well-formed Cumulus) state (listed (cumulus .blocks) (λ b. pos 0)) (n c) (half c) (piece-is c)
-    (ap length (a .wholes-in .ensures) ∙ length-listed (cumulus .variables) _) (readable a)
+    valued-in cumulus (t (d a)) (well-formed Cumulus) state (n c) (half c)
+    (ap length (a .wholes-in .ensures) ∙ length-listed (cumulus .variables) _) (known (d a) .0) (known (d a) .1 .1)
+    (λ i h. rw (state-is a i h, ← piece-is c) (within-piece (t (d a)) (x (d a)) (known (d a) .1 .0) (in-limits a) i h))
 
 returns-4 : tie.Need-returns-4
 returns-4 c =
     let p = c .before in
     let a = all p in
     let at = roundedAll (x (d a)) in
-    let same : piece (n p) ≡ pieceAt cumulus (t (d a)) at = sym (piece-is p) ∙ ap (λ z. cond (leZ z (cut cumulus (t (d a)))) low high) (state-is a 0 (omega arith)) in
     c .answered .ensures
     ∙ ap (answerWith 0 positiveZero)
-    (fun-ext (λ b. ap floatOf (total-agreed cumulus (well-formed Cumulus .in-variables) (t (d a)) b (piece (n p)) (w a) at (state-is a) ∙ ap (λ q. total (coefficient cumulus (t (d a)) b q) at) same)))
+    (fun-ext (λ b. ap floatOf (total-agreed cumulus (well-formed Cumulus .in-variables) (t (d a)) b (piece (n p)) (w a) at (state-is a) ∙ ap (λ q. total (coefficient cumulus (t (d a)) b q) at) (sym (piece-is p)))))
     ∙ done-answer (t (d a)) (x (d a)) (nothing a)
 
 pub read-floats-spec : {M : Type 1} → statement M
@@ -241,7 +237,7 @@ read-floats-spec =
     outside-requires
     returns-3
     wholes-in-requires
-    array-copy-out-piece
-    piece-requires
+    array-read-true-piece
+    true-piece-requires
     answered-requires
     returns-4)

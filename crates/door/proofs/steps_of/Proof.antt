@@ -10,9 +10,9 @@ use mir.Syntax.{w64}
 use Rattle.polynomials.specs.Sum.{listed}
 use Rattle.polynomials.proofs.Listed.{listed-more, listed-all}
 use Rattle.layout.specs.Limits.{lowest, highest}
-use Rattle.layout.specs.Shape.{cumulus, shape, lowestPlace, highestPlace}
+use Rattle.layout.specs.Shape.{cumulus, shape}
 use Rattle.limits.proofs.Held.{held}
-use Rattle.laws.proofs.LimitLaws.{lowest-among, highest-among, range-within}
+use Rattle.laws.proofs.LimitLaws.{lowest-within, highest-within}
 use Rattle.rounding.specs.Reading.{stepOf}
 use Rattle.door.specs.Door.{floats, stepAt}
 use Rattle.door.proofs.steps_of.Statement.{statement}
@@ -57,8 +57,8 @@ step-of-requires c κs =
     let t = d .before .before .args .limits .numbers in
     let i = d .before .loop .i in
     let range = d .before .before .pre .1 in (
-      rw (lowest-is c) (range-within cumulus t range (lowestPlace cumulus i) (lowest-among cumulus i (d .loop-test .taken))),
-      rw (highest-is c) (range-within cumulus t range (highestPlace cumulus i) (highest-among cumulus i (d .loop-test .taken))),
+      rw (lowest-is c) (lowest-within cumulus t range i (d .loop-test .taken)),
+      rw (highest-is c) (highest-within cumulus t range i (d .loop-test .taken)),
     )
 
 mul-steps : tie.Need-mul-steps Inv-loop μ-loop

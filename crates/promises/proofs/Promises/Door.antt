@@ -1,21 +1,24 @@
 -- The floating-point door. A step is what one reading comes to (`stepAt`); `numberOf` and `handedBack` give each case of a step its number and its float.
 use mathlib.Core.Path.{_≡_, refl}
+use mathlib.Core.Logic.{_↔_}
 use mathlib.Core.Bool.{Bool, true, false, not, cond, _&&_}
 use mathlib.Core.List.{List, _∷_, _++_}
 use Prim.Native.Nat.{ℕ, _<_}
 use lib.Dec.{eqb}
-use lib.IntN.{ℤ, pos, negsuc}
+use lib.IntN.{ℤ, pos, negsuc, _+ℤ_, _*ℤ_}
 use lib.ListN.{length, getD}
-use lib.Signed.{leZ}
+use lib.Signed.{leZ, _≤ℤ_, _<ℤ_}
 use lib.Ieee.{Float, fin, isNan, ofInt}
 use lib.Ieee.Scale.{finite}
 use Rattle.whole.specs.Nearest.{nearestAway, IsNearestAway}
 use Rattle.polynomials.specs.Sum.{listed}
+use Rattle.polynomials.specs.Groups.{total}
 use Rattle.layout.specs.Shape.{tableLength, cumulus}
-use Rattle.layout.specs.Limits.{lowest, highest, good}
+use Rattle.layout.specs.Limits.{lowest, highest, cut, fineCut, good}
+use Rattle.layout.specs.Blocks.{low, coefficient}
 use Rattle.layout.specs.Sound.{light}
 use Rattle.layout.specs.Refusals.{_when_, first, wrongTable, badLimits, tooHeavy, outside}
-use Rattle.layout.specs.Reading.{inside, readNumber, readOutput}
+use Rattle.layout.specs.Reading.{inside, pieceAt, readNumber, readOutput}
 use Rattle.rounding.specs.Value.{numerator, denominator}
 use Rattle.rounding.specs.Reading.{wholeOf, stepOf}
 use Rattle.rounding.specs.Answer.{nearestEven, floatOf}
@@ -23,9 +26,11 @@ use Rattle.rounding.specs.declared.Step.the-variants.{Whole, NotFinite, Outside
 use Rattle.rounding.proofs.Nearest.{reading-nearest, reading-unique}
 use Rattle.rounding.proofs.Steps.{step-is, zero-step}
 use Rattle.rounding.proofs.Answers.{zero-positive}
+use Rattle.thousandths.specs.Thousandths.{atMostThousandths}
 use Rattle.door.specs.Steps.{notFinite, positiveZero, numberOf, handedBack, isNotFinite, isOutside}
-use Rattle.door.specs.Door.{roundedAll, stepAt, doorNumber, doorReading, doorValue}
-use Rattle.door.proofs.Answers.{number-told, number-read, value-read, zero-on-refusal, reading-step, reading-elsewhere, value-number, reading-number}
+use Rattle.door.specs.Door.{roundedAll, stepAt, doorNumber, doorReading, truePiece, doorValue}
+use Rattle.door.proofs.Pieces.{piece-told, same-below, same-above, same-whole}
+use Rattle.door.proofs.Answers.{number-told, number-read, value-in-piece, value-read, zero-on-refusal, reading-step, reading-elsewhere, value-number, reading-number}
 
 -- ════ The step of one reading
 -- Positive and negative zero both read as 0.
@@ -65,13 +70,34 @@ module _ (t : List ℤ) (x : ℕ → Float) where
       ∷ (listed (cumulus .variables) (λ i. notFinite cumulus i when not (finite (x i))) ++ listed (cumulus .variables) (λ i. outside cumulus i when not (inside cumulus t (roundedAll x) i))))
   door-refusals-of-floats = number-told t x
 
-  -- Five finite readings are answered as the whole-number read of the rounded readings is: the number,
+  -- Five finite readings are given the number of the whole-number read of the rounded readings.
   pub door-number-of-rounded : ((i : ℕ) → i < cumulus .variables → finite (x i) ≡ true) → doorNumber cumulus t x ≡ readNumber cumulus t (roundedAll x) (listed (cumulus .blocks) (λ b. pos 0))
   door-number-of-rounded = number-read t x
 
+  -- ════ The piece
+  -- It is the low one exactly where alpha as given, as an exact number, is at most the fine cut in thousandths.
+  pub door-piece : (truePiece cumulus t (x 0) ≡ low) ↔ ((pos 1000 *ℤ numerator (x 0)) ≤ℤ (fineCut cumulus t *ℤ pos (denominator (x 0))))
+  door-piece = piece-told t (x 0)
+
+  -- The whole-number read has the same piece where the rounded alpha is below the cut,
+  pub door-piece-below-the-cut : good cumulus t ≡ true → roundedAll x 0 <ℤ cut cumulus t → truePiece cumulus t (x 0) ≡ pieceAt cumulus t (roundedAll x)
+  door-piece-below-the-cut = same-below t x
+
+  -- where it is past the number after the cut,
+  pub door-piece-past-the-cut : good cumulus t ≡ true → (cut cumulus t +ℤ pos 1) <ℤ roundedAll x 0 → truePiece cumulus t (x 0) ≡ pieceAt cumulus t (roundedAll x)
+  door-piece-past-the-cut = same-above t x
+
+  -- and where alpha is a whole number as given.
+  pub door-piece-of-wholes : good cumulus t ≡ true → numerator (x 0) ≡ roundedAll x 0 *ℤ pos (denominator (x 0)) → truePiece cumulus t (x 0) ≡ pieceAt cumulus t (roundedAll x)
+  door-piece-of-wholes = same-whole t x
+
   -- ════ The six floats
-  -- and each of the six, made a float and divided once.
-  pub door-values-of-rounded : ((i : ℕ) → i < cumulus .variables → finite (x i) ≡ true) → (b : ℕ) → b < cumulus .blocks
+  -- Each is that of the piece of alpha as given, at the rounded readings, made a float and divided once.
+  pub door-values-in-piece : doorNumber cumulus t x ≡ 0 → (b : ℕ) → doorValue cumulus t x b ≡ floatOf (total (coefficient cumulus t b (truePiece cumulus t (x 0))) (roundedAll x))
+  door-values-in-piece = value-in-piece t x
+
+  -- Wherever both choose the same piece they are the whole-number read of the rounded readings.
+  pub door-values-of-rounded : ((i : ℕ) → i < cumulus .variables → finite (x i) ≡ true) → truePiece cumulus t (x 0) ≡ pieceAt cumulus t (roundedAll x) → (b : ℕ) → b < cumulus .blocks
       → doorValue cumulus t x b ≡ floatOf (getD (readOutput cumulus t (roundedAll x) (listed (cumulus .blocks) (λ b. pos 0))) b (pos 0))
   door-values-of-rounded = value-read t x
 
@@ -95,6 +121,11 @@ module _ (t : List ℤ) (x : ℕ → Float) where
 -- A zero gives positive zero.
 pub door-zero-is-positive : floatOf (pos 0) ≡ positiveZero
 door-zero-is-positive = zero-positive
+
+-- The float 313.269 lies above 313269 thousandths, and the one before it below; the kit's model writes them 1377771632487039·2⁻⁴² and 5511086529948155·2⁻⁴⁴.
+pub door-floats-at-the-fine-cut : (atMostThousandths (fin false 1377771632487039 (negsuc 41)) (pos 313_269) ≡ false) × (atMostThousandths (fin false 5511086529948155 (negsuc 43)) (pos 313_269) ≡ true)
+unfolding atMostThousandths
+door-floats-at-the-fine-cut = (refl, refl)
 
 -- ════ Two roundings
 -- A half of a reading goes away from zero: 0.5, which the kit's model writes 1·2⁻¹, reads as 1, and -0.5 as -1. So what is promised of moved tables cannot

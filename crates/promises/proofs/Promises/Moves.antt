@@ -1,26 +1,27 @@
 -- A datum moved: which moves are accepted, and what the moved table answers.
 use mathlib.Core.Path.{_≡_, refl, sym, _∙_, ap, subst}
 use mathlib.Core.Logic.{_↔_, _⊎_}
-use mathlib.Core.Bool.{true, false}
+use mathlib.Core.Bool.{true, false, cond}
 use mathlib.Core.List.{List}
 use Prim.Native.Nat.{ℕ, _≤_, _<_}
 use native.Mathlib.Omega.{arith}
-use lib.IntN.{ℤ, pos, negℤ, natAbs, _+ℤ_}
+use lib.Dec.{eqb}
+use lib.IntN.{ℤ, pos, negℤ, natAbs, _+ℤ_, _-ℤ_, _*ℤ_}
 use lib.ListN.{length}
 use Rattle.polynomials.specs.Groups.{totalWeight, less}
 use Rattle.polynomials.specs.Limits.{cap}
 use Rattle.layout.specs.Shape.{Shape, WellFormed, limitsLength, tableLength, cumulus}
-use Rattle.layout.specs.Limits.{allInRange}
+use Rattle.layout.specs.Limits.{fineCut, isFineCut, allInRange}
 use Rattle.layout.specs.Blocks.{Piece, coefficient}
 use Rattle.layout.specs.Sound.{SoundTable}
 use Rattle.layout.specs.Refusals.{done, wrongTable, noVariable, limitPast, moveTooHeavy}
 use Rattle.layout.specs.Reading.{readings, readNumber, readOutput}
 use Rattle.layout.specs.Moving.{movedLimit, movedLimits, movedTable, movedState, moveReach, moveLight, moveNumber, moveOutput}
 use Rattle.layout.specs.Accepted.{MoveAccepted}
-use Rattle.laws.proofs.LimitLaws.{good-facts, range-within, within-range}
+use Rattle.laws.proofs.LimitLaws.{good-facts, range-within, within-range, fine-same}
 use Rattle.laws.proofs.Weights.{withinCap-fact, fact-withinCap}
 use Rattle.layout.specs.declared.Model.the-variants.{Cumulus}
-use Rattle.laws.proofs.Moved.{getD-movedLimits, movedTable-twice, movedTable-nil, movedTable-back, movedTable-swap}
+use Rattle.laws.proofs.Moved.{getD-movedLimits, moved-limits, fine-movedLimits, movedTable-twice, movedTable-nil, movedTable-back, movedTable-swap}
 use Rattle.laws.proofs.SoundMoved.{moved-sound, still-range, still-light}
 use Rattle.laws.proofs.ReadingMoved.{readings-moved, readNumber-moved, readOutput-moved}
 use Rattle.laws.proofs.Refused.{move-given, move-kept, move-wrong-table, move-no-variable}
@@ -74,12 +75,17 @@ module _ (S : Shape) where
     pub move-no-other-number : (moveNumber S t i s out ≡ done) ⊎ ((moveNumber S t i s out ≡ limitPast) ⊎ (moveNumber S t i s out ≡ moveTooHeavy))
     move-no-other-number = move-no-other S t i s out w room known
 
-  -- In range: each moved limit is in -2000..2000.
-  pub range-rule : (t : List ℤ) (i : ℕ) (s : ℤ) → (allInRange S (movedLimits S i s t) ≡ true) ↔ ((k : ℕ) → k < limitsLength S → natAbs (movedLimit S i s t k) ≤ 2000)
+  -- In range: each moved limit but the fine cut is in -2000..2000.
+  pub range-rule : (t : List ℤ) (i : ℕ) (s : ℤ) → (allInRange S (movedLimits S i s t) ≡ true) ↔ ((k : ℕ) → k < limitsLength S → isFineCut S k ≡ false → natAbs (movedLimit S i s t k) ≤ 2000)
   range-rule t i s = (
-    λ e k h. rw (getD-movedLimits S i s t k h) at (range-within S (movedLimits S i s t) e k h),
-    λ f. within-range S (movedLimits S i s t) (λ k h. rw (getD-movedLimits S i s t k h) (f k h)),
+    λ e k h n. rw (getD-movedLimits S i s t k h) at (range-within S (movedLimits S i s t) e k h n),
+    λ f. within-range S (movedLimits S i s t) (λ k h n. rw (getD-movedLimits S i s t k h) (f k h n)),
   )
+
+  -- A move in alpha takes the fine cut 1000 s less; a move in another variable keeps it.
+  pub fine-cut-moves : S .hasFineCut ≡ true → 1 ≤ S .variables → (t : List ℤ) (i : ℕ) (s : ℤ) → fineCut S (movedTable S i s t) ≡ cond (eqb 0 i) (fineCut S t -ℤ pos 1000 *ℤ s) (fineCut S t)
+  unfolding less
+  fine-cut-moves e v t i s = fine-same (moved-limits S i s t) e v ∙ fine-movedLimits S i s t e v
 
   -- The weight rule: no coefficient passes the cap in either piece, with variable i's power taken of its new reach and the size of s.
   pub weight-rule : (t : List ℤ) (i : ℕ) (s : ℤ)

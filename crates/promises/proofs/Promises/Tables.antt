@@ -3,18 +3,20 @@ use mathlib.Core.Path.{_≡_, refl, sym, _∙_, ap}
 use mathlib.Core.Logic.{_↔_}
 use mathlib.Core.Bool.{true, false, not}
 use mathlib.Core.List.{List, map}
-use Prim.Native.Nat.{ℕ, _+_, _-_, _*_, _≤_, _<_}
+use Prim.Native.Nat.{ℕ, _+_, _-_, _*_, _≤_, _<_, max}
 use native.Mathlib.Omega.{arith}
 use borrow.Author.Tests.{not-true, not-false}
-use lib.IntN.{ℤ, pos, negsuc, natAbs}
+use lib.IntN.{ℤ, pos, negsuc, natAbs, _+ℤ_, _*ℤ_}
 use lib.ListN.{length, getD, replicate}
 use lib.Signed.{leZ, _≤ℤ_, _<ℤ_}
+use Rattle.whole.specs.Down.{roundedDown}
+use Rattle.whole.proofs.Down.{down-is, down-unique}
 use Rattle.polynomials.specs.Groups.{totalWeight}
 use Rattle.polynomials.specs.Limits.{cap}
 use Rattle.layout.specs.declared.Model.{Model}
 use Rattle.layout.specs.Shape.{Shape, WellFormed, limitsLength, blockLength, blockStart, tableLength, cumulus, shape}
-use Rattle.layout.specs.Limits.{lowest, highest, cut, good}
-use Rattle.layout.specs.Blocks.{Piece, coefficient}
+use Rattle.layout.specs.Limits.{lowest, highest, cut, fineCut, isFineCut, good}
+use Rattle.layout.specs.Blocks.{Piece, low, high, coefficient}
 use Rattle.layout.specs.Sound.{reach, light, SoundTable}
 use Rattle.layout.specs.Refusals.{_when_, first, done, wrongTable, wrongOutput, outside}
 use Rattle.layout.specs.Publishing.{publishNumber, publishOutput}
@@ -23,7 +25,7 @@ use Rattle.layout.specs.Accepted.{ReadAccepted}
 use Rattle.layout.proofs.Fine.{well-formed}
 use Rattle.laws.proofs.Sizes.{block-size, start-size, table-size}
 use Rattle.laws.proofs.Tests.{&&-left, &&-right, &&-both, leZ-fact, fact-leZ}
-use Rattle.laws.proofs.LimitLaws.{good-facts, facts-good, limit-within, within-range}
+use Rattle.laws.proofs.LimitLaws.{good-facts, facts-good, limit-within, range-within, within-range}
 use Rattle.laws.proofs.Weights.{withinCap-fact, fact-withinCap}
 use Rattle.laws.proofs.Heavy.{smallest-heavy}
 use Rattle.laws.proofs.Published.{fitting, other, publish-kept}
@@ -46,12 +48,12 @@ pub every-model-is-well-formed : (m : Model) → WellFormed (shape m)
 every-model-is-well-formed = well-formed
 
 -- ════ Layout
--- A table has 311 numbers: 11 limits, and six blocks of 50.
-pub table-numbers : (tableLength cumulus ≡ 311) × (limitsLength cumulus ≡ 11) × (cumulus .blocks ≡ 6) × (blockLength cumulus ≡ 50)
+-- A table has 312 numbers: 12 limits, and six blocks of 50.
+pub table-numbers : (tableLength cumulus ≡ 312) × (limitsLength cumulus ≡ 12) × (cumulus .blocks ≡ 6) × (blockLength cumulus ≡ 50)
 table-numbers = (table-size, refl, refl, block-size)
 
--- The blocks start at 11, 61, 111 and so on.
-pub block-starts : (b : ℕ) → blockStart cumulus b ≡ 11 + 50 * b
+-- The blocks start at 12, 62, 112 and so on.
+pub block-starts : (b : ℕ) → blockStart cumulus b ≡ 12 + 50 * b
 block-starts = start-size
 
 -- ════ Publishing
@@ -76,19 +78,33 @@ pub published-scaling : (k : ℕ) → limitsLength cumulus ≤ k → k < tableLe
 published-scaling = published-multiples
 
 -- ════ Sound tables
--- Good limits: each lies in -2000..2000, alpha's lowest <= cut < highest, and each lowest is at most its highest.
+-- Good limits: each but the fine cut lies in -2000..2000, alpha's lowest <= cut < highest, each lowest is at most its highest, and where the shape has a
+-- fine cut the cut is its thousandth part, rounded down.
 pub good-rule : (S : Shape) (t : List ℤ)
-    → (good S t ≡ true) ↔ (((k : ℕ) → k < limitsLength S → natAbs (getD t k (pos 0)) ≤ 2000) × (lowest S t 0 ≤ℤ cut S t) × (cut S t <ℤ highest S t 0) × ((i : ℕ) → i < S .variables → lowest S t i ≤ℤ highest S t i))
+    → (good S t ≡ true) ↔ (((k : ℕ) → k < limitsLength S → isFineCut S k ≡ false → natAbs (getD t k (pos 0)) ≤ 2000) × (lowest S t 0 ≤ℤ cut S t) × (cut S t <ℤ highest S t 0) × ((i : ℕ) → i < S .variables → lowest S t i ≤ℤ highest S t i) × (S .hasFineCut ≡ true → cut S t ≡ roundedDown 1000 (fineCut S t)))
 good-rule S t = (
-  λ e. let g = good-facts S t e in (limit-within S t g, g .lowest-cut, g .cut-highest, g .ordered),
-  λ h. facts-good S t (record { range = within-range S t (h .0); lowest-cut = h .1; cut-highest = h .2; ordered = h .3 }),
+  λ e. let g = good-facts S t e in (range-within S t (g .range), g .lowest-cut, g .cut-highest, g .ordered, g .cuts-agree),
+  λ h. facts-good S t (record { range = within-range S t (h .0); lowest-cut = h .1; cut-highest = h .2; ordered = h .3; cuts-agree = h .4 }),
 )
+
+-- Rounded down, towards minus infinity: the largest whole number of which 1000 go into z.
+pub rounded-down-rule : (z q : ℤ) → (q ≡ roundedDown 1000 z) ↔ (((pos 1000 *ℤ q) ≤ℤ z) × (z <ℤ (pos 1000 *ℤ q +ℤ pos 1000)))
+rounded-down-rule z q = (λ e. rw e (down-is 1000 (omega arith) z), λ h. down-unique 1000 (omega arith) z q (h .0) (h .1))
+
+-- So a fine cut that belongs to a good table is small.
+pub fine-cut-small : (t : List ℤ) → good cumulus t ≡ true → natAbs (fineCut cumulus t) ≤ 2_001_000
+fine-cut-small t e = limit-within cumulus t (omega arith) (good-facts cumulus t e) 3 (omega arith)
+
+-- Alpha reaches from its lowest to the cut + 1 in the low piece and from the cut to its highest in the high one, and is at least 1.
+pub alpha-reaches : (t : List ℤ)
+    → (reach cumulus t low 0 ≡ max 1 (max (natAbs (lowest cumulus t 0)) (natAbs (cut cumulus t +ℤ pos 1)))) × (reach cumulus t high 0 ≡ max 1 (max (natAbs (cut cumulus t)) (natAbs (highest cumulus t 0))))
+alpha-reaches t = (refl, refl)
 
 -- No weight of a light table passes the cap: over every block and piece, at the reaches of the table's own limits.
 pub light-rule : (S : Shape) (t : List ℤ) → (light S t ≡ true) ↔ ((b : ℕ) → b < S .blocks → (p : Piece) → totalWeight (coefficient S t b p) (reach S t p) ≤ cap)
 light-rule S t = (withinCap-fact S t (reach S t), fact-withinCap S t (reach S t))
 
--- The smallest 64-bit number is too heavy in any place behind the limits, from 11 on in a Cumulus One table.
+-- The smallest 64-bit number is too heavy in any place behind the limits, from 12 on in a Cumulus One table.
 pub smallest-too-heavy : (m : Model) (t : List ℤ) (k : ℕ) → limitsLength (shape m) ≤ k → k < tableLength (shape m) → getD t k (pos 0) ≡ negsuc 9_223_372_036_854_775_807 → light (shape m) t ≡ false
 smallest-too-heavy = smallest-heavy
 
