@@ -51,7 +51,7 @@ def lengths(script, _):
     for space in range(SPACE_COUNT):
         script.fill(space, 0, 1, MASK, space + 1)
     sum_all(script)
-    for length in (311, 320, 0, 1, 0, 320, 319, 320, 50, 51, 311):
+    for length in (312, 320, 0, 1, 0, 320, 319, 320, 50, 51, 312):
         script.length(5, length)
         script.sum(5)
         script.fill(5, 0, 3, 1000, 7)
@@ -63,7 +63,7 @@ def lengths(script, _):
 
 def single_places(script, _):
     known_spaces(script)
-    for length in (320, 311, 12, 1, 0):
+    for length in (320, 312, 12, 1, 0):
         script.length(3, length)
         for place in (0, 1, length - 1, length, length + 1, 319, 320, 321, 1 << 32, (1 << 32) + 1, 1 << 63, MASK):
             if place >= 0:
@@ -87,9 +87,9 @@ def drawn_numbers(script, _):
     for seed in (0, 1, 2, 1 << 32, 1 << 63, I64_MAX, MASK):
         script.fill(1, 0, 1, MASK, seed)
         script.sum(1)
-        script.show(1, 306, 5)
-    for step in (0, 1, 2, 50, 155, 310, 311, 312, 1 << 32, 1 << 63, MASK - 1, MASK):
-        for place in (0, 1, 155, 310):
+        script.show(1, 307, 5)
+    for step in (0, 1, 2, 50, 155, 311, 312, 313, 1 << 32, 1 << 63, MASK - 1, MASK):
+        for place in (0, 1, 155, 311):
             script.zeros(1)
             script.fill(1, place, step, 1000, 12345)
             script.sum(1)
@@ -142,7 +142,7 @@ def rooms_that_are_wrong(script, _):
     """Refusals leave a space that holds other numbers as it was."""
     known_spaces(script)
     script.publish(0)
-    for length in (310, 311, 312):
+    for length in (311, 312, 313):
         script.zeros(1, length)
         script.fill(1, 0, 1, 1000, 4)
         script.move(0, 9, 5, 1)
@@ -153,7 +153,7 @@ def rooms_that_are_wrong(script, _):
             script.publish(1)
             script.sum(1)
     script.comment("rooms of reads, some of more numbers than there is room for")
-    for room in (0, 1, 5, 7, 311, 319, 320, 321, 322, 1 << 32, (1 << 32) + 6, 1 << 63, MASK):
+    for room in (0, 1, 5, 7, 312, 319, 320, 321, 322, 1 << 32, (1 << 32) + 6, 1 << 63, MASK):
         script.read(0, ZEROS, room)
         script.read(2, ZEROS, room)
         script.microradians(ZEROS, room)
@@ -233,9 +233,9 @@ def reasons_in_their_order(script, _):
         b"gtm_read 10 321 0 0 0 0 0", b"gtm_raed 10 321 0 0",
         b"length 10 321", b"length 10 x", b"length 0 321 0",
         b"set 10 400 1", b"set 10 400 x", b"set 0 400 x", b"set 0 400 1",
-        b"fill 10 400 1 1 1", b"fill 0 400 1 1 x", b"fill 0 311 1 1 1",
+        b"fill 10 400 1 1 1", b"fill 0 400 1 1 x", b"fill 0 312 1 1 1",
         b"copy 10 x", b"copy 10 10", b"copy x 10",
-        b"show 10 0 312", b"show 0 312 x", b"show 0 0 312",
+        b"show 10 0 313", b"show 0 313 x", b"show 0 0 313",
         b"sum 10 0", b"sum x", b"sum 10", b"smu 10",
         b"sum 10" + b" " * 250, b"sum 10" + b" " * 251, b"smu" + b" " * 253, b"smu" + b" " * 254,
     ):

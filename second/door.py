@@ -2,13 +2,15 @@
 
 A pattern is turned into an exact fraction and a result is rounded back by
 whole-number arithmetic, so no floating-point arithmetic takes part in any answer.
+The piece is that of the alpha reading as given, and is read at the rounded one.
 """
 
 from fractions import Fraction
 
 import tables
-from model import CUMULUS, READING_OUTSIDE
+from model import ALPHA, CUMULUS, FINE_CUT, READING_OUTSIDE
 from roundings import half_away, half_even
+from shapes import HIGH_GROUP, LOW_GROUP, THOUSANDTHS
 from tables import DONE, LIMITS_NOT_GOOD, TOO_HEAVY, WRONG_TABLE_LENGTH
 
 NOT_FINITE = (21, 22, 23, 24, 25)   # by variable number
@@ -82,9 +84,14 @@ def refused(number, handed_back):
     return number, [POSITIVE_ZERO] * 6, handed_back
 
 
+def piece_as_given(table, alpha_bits):
+    """The low piece exactly where alpha as given is at most the fine cut, as exact numbers."""
+    return LOW_GROUP if exact_value(alpha_bits) <= Fraction(table[FINE_CUT], THOUSANDTHS) else HIGH_GROUP
+
+
 def six_answers(table, reading_bits):
     readings = [whole_reading(bits) for bits in reading_bits]
-    return [answer_bits(number) for number in tables.all_coefficients(CUMULUS, table, readings)]
+    return [answer_bits(number) for number in tables.sums(CUMULUS, table, piece_as_given(table, reading_bits[ALPHA]), readings)]
 
 
 def handed_back_with(number, reading_bits):

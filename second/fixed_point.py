@@ -8,8 +8,8 @@ down, and the row before each of these powers from the highest power of its firs
 from fractions import Fraction
 
 from model import (
-    ALPHA, BLOCK_COUNT, CUMULUS, EQUATIONS_OF_BLOCK, GROUPS, HIGHEST, HIGH_GROUP, LOWEST, LOW_GROUP, PRINTED, PUBLISHED_LIMITS,
-    READING_OUTSIDE, READ_LENGTH, XI_GROUP, ZETA_GROUP,
+    ALPHA, BLOCK_COUNT, CUMULUS, EQUATIONS_OF_BLOCK, GROUPS, HIGHEST, HIGH_GROUP, LOWEST, LOW_GROUP, PRINTED, PUBLISHED_FINE_CUT,
+    PUBLISHED_LIMITS, READING_OUTSIDE, READ_LENGTH, XI_GROUP, ZETA_GROUP,
 )
 from roundings import half_away
 from shapes import printed_terms
@@ -18,7 +18,7 @@ from tables import DONE, WRONG_OUTPUT_LENGTH, first_that_holds
 UNIT = 10**9
 RADIAN = 10**6                      # in microradians
 MILLIRADIAN = 1000
-LAST_OF_LOW = 313269                # 17.949 degrees lies between this and the next one
+LAST_OF_LOW = PUBLISHED_FINE_CUT    # a thousandth of a milliradian is a microradian
 ORDER = (WRONG_OUTPUT_LENGTH,) + READING_OUTSIDE
 
 

@@ -1,15 +1,16 @@
 """Sections of reads with floats: the checked values 12 and 13, halves of readings and of answers, special patterns, every kind of NaN,
-every limit and its halves, and drawn readings of published, moved, random, damaged and unsound tables."""
+every limit and its halves, both sides of fine cuts, and drawn readings of published, moved, random, damaged and unsound tables."""
 
 from fractions import Fraction
 
 from door import SIGN_BIT, nearest_bits
 from makers import (
-    INFINITY, QUIET, QUIET_NAN, SPECIAL_BITS, ZEROS, bits_of_ratio, bits_of_whole, damage, good_limits, inside_float_state, nudge,
-    one_in_each_block, random_table, spoil_limits, with_reading,
+    INFINITY, NARROW_ALPHA, QUIET, QUIET_NAN, SPECIAL_BITS, THOUSANDTHS_ABOVE, ZEROS, beside, bits_of_ratio, bits_of_thousandths,
+    bits_of_whole, damage, drawn_thousandths, good_limits, inside_float_state, nudge, one_in_each_block, random_table, spoil_limits,
+    with_reading,
 )
-from model import CUMULUS, FIRST_BLOCK, HIGHEST, LOWEST, PUBLISHED_LIMITS, PUBLISHED_TABLE
-from shapes import ALPHA_CUT
+from model import CUMULUS, FINE_CUT, FIRST_BLOCK, HIGHEST, LOWEST, PUBLISHED_LIMITS, PUBLISHED_TABLE
+from shapes import ALPHA_CUT, HIGH_GROUP, LOW_GROUP
 
 SIGNS = (0, SIGN_BIT)
 LARGEST_PAYLOAD = QUIET - 1
@@ -22,7 +23,7 @@ def bits_of(decimal):
 def checked_values(script, _):
     script.published(0)
     script.comment("12")
-    for alpha in ("0.5", "-0.5", "1.5", "2.5", "1000.5", "1000.6"):
+    for alpha in ("0.5", "-0.5", "1.5", "2.5", "313.4", "1000.5", "1000.6"):
         script.floats(0, with_reading(0, bits_of(alpha)))
     script.floats(0, [bits_of("2000"), 0, 0, 0, QUIET_NAN])
     script.comment("13")
@@ -43,6 +44,65 @@ def worked_halves(script, _):
     for alpha in ("0.5", "1.5"):
         script.floats(0, with_reading(0, bits_of(alpha)))
         script.floats(1, with_reading(0, nearest_bits(Fraction(alpha) - 1)))
+
+
+# A table whose fine cut is past a half, and what it answers: the low piece is 5 and the reading, the high one 1000 times the reading.
+SLOPES_LIMITS = CUMULUS.limits((-2, 3, 9), (0, 0) * 4, 700)
+SLOPES = ((LOW_GROUP, (0, 0), 5), (LOW_GROUP, (1, 0), 1), (HIGH_GROUP, (1, 0), 1000))
+
+
+def slopes(script, space, limits):
+    """The numbers of that table with any limits, so that an answer tells the piece and the whole reading."""
+    script.limits(space, limits)
+    for group, powers, number in SLOPES:
+        script.set(space, CUMULUS.place_of(0, group, powers), number)
+
+
+def worked_fine_cuts(script, _):
+    """The piece is that of the reading as given, and is read at the rounded one."""
+    script.published(0)
+    for alpha in ("313", "313.26899999999995", "313.269", "313.2690000000001", "313.4", "313.49999999999994", "313.5", "314"):
+        script.floats(0, with_reading(0, bits_of(alpha)))
+    for alpha in (313, 314):
+        script.read(0, with_reading(0, alpha))
+    script.zeros(1)
+    for shift in (-553, -554, 635, 636, 100):
+        script.move(0, 0, shift, 1)
+    for alpha in ("213", "213.26899999999998", "213.269", "213.4", "213.5"):
+        script.floats(1, with_reading(0, bits_of(alpha)))
+    slopes(script, 2, SLOPES_LIMITS)
+    for alpha in ("3.4", "3.5", "3.6", "3.6999999999999997", "3.7", "3.71", "4", "4.4"):
+        script.floats(2, with_reading(0, bits_of(alpha)))
+    for alpha in (3, 4):
+        script.read(2, with_reading(0, alpha))
+    script.limits(3, CUMULUS.limits(NARROW_ALPHA, thousandths=-1))
+    script.floats(3, ZEROS)
+
+
+def both_sides_of_fine_cuts(script, _):
+    """Cuts of both signs and at both ends, with each fine cut: floats at it, at the halves and wholes about it, and next to these."""
+    for alpha in ((-2, 3, 9), (-2, 3, 4), (-9, -4, 9), (-4, -4, -3), (-3, -1, 2), (0, 0, 1), (1999, 1999, 2000), (-2000, -2000, -1999)):
+        slopes(script, 0, CUMULUS.limits(alpha))
+        first = 1000 * alpha[ALPHA_CUT]
+        for thousandths in THOUSANDTHS_ABOVE + (1, 125, 269):
+            script.set(0, FINE_CUT, first + thousandths)
+            for at, steps in ((first + thousandths, (-1, 0, 1)), (first + 500, (-1, 0)), (first + 1000, (-1, 0))):
+                for step in steps:
+                    script.floats(0, with_reading(0, beside(bits_of_thousandths(at), step)))
+
+
+def beside_moved_fine_cuts(script, gen):
+    """The published table, and tables with the slopes, moved in alpha: floats at the moved fine cut and next to it."""
+    script.zeros(1)
+    for turn in range(40):
+        if turn % 2:
+            slopes(script, 0, CUMULUS.limits((-300, gen.take(-20, 20), 300), (), drawn_thousandths(gen)))
+        else:
+            script.published(0)
+        script.move(0, 0, gen.take(-300, 300), 1)
+        fine = bits_of_thousandths(script.table(1)[FINE_CUT])
+        for step in (-1, 0, 1):
+            script.floats(1, with_reading(0, beside(fine, step)))
 
 
 def halves_of_answers(script, _):
@@ -144,6 +204,9 @@ def near_the_cap(script, gen):
 SECTIONS = (
     ("Checked values 12 and 13", checked_values),
     ("Worked halves", worked_halves),
+    ("Worked fine cuts", worked_fine_cuts),
+    ("Both sides of fine cuts", both_sides_of_fine_cuts),
+    ("Floats beside moved fine cuts", beside_moved_fine_cuts),
     ("Halves of answers", halves_of_answers),
     ("Special patterns", special_patterns),
     ("Every kind of NaN", every_kind_of_nan),

@@ -8,7 +8,7 @@ import listed
 from draws import I64_MAX, I64_MIN, MASK
 from gtm_model import ETA, GTM
 from listed import ENDS, changed_copy, one_or_none, published_of_length, room_of_numbers
-from makers import NARROW_LIMITS, PROMISED_SIZES, ZEROS, corners, last_accepted, shifted, with_reading
+from makers import NARROW_ALPHA, PROMISED_SIZES, ZEROS, corners, last_accepted, shifted, with_reading
 from model import CUMULUS
 from shapes import ALPHA, ALPHA_CUT
 from tables import WEIGHT_CAP
@@ -28,10 +28,10 @@ EXAMPLES = (
     ((0, 401), "14 untouched"),
 )
 # the length of a table, and others about it and about those of its parts
-TABLE_LENGTHS = (65, 0, 3, 5, 64, 66, 311, 320)
+TABLE_LENGTHS = (65, 0, 3, 5, 64, 66, 312, 320)
 # those of a read and of a table, and others about them
-ROOMS = (3, 2, 4, 65, 64, 66, 311)
-NO_TABLE_ROOMS = (2, 64, 311)
+ROOMS = (3, 2, 4, 65, 64, 66, 312)
+NO_TABLE_ROOMS = (2, 64, 312)
 ODD_VARIABLES = (2, 3, 4, 5, 1 << 32, (1 << 32) + 1, 1 << 63, MASK)
 VARIABLES = (ALPHA, ETA)
 
@@ -190,7 +190,7 @@ def other_shape(script, _):
     cumulus.zeros(2)
     script.zeros(3)
     moves = [(0, 0), (0, 35), (1, 20), (2, 0), (5, 0), (0, 5000)]
-    script.comment("a table of 311 numbers")
+    script.comment("a table of 312 numbers")
     for state in (INSIDE, ORDINARY, (1001, 401)):
         for room in (3, 6, 2):
             script.read(0, state, room)
@@ -225,7 +225,7 @@ def kinds_of_defects(script, _):
     """Two and three defects of each kind together, for each operation."""
     limit_defects = ((4, -2001), (1, 1), (3, 1))
     heavy_defects = ((5, WEIGHT_CAP + 1), (64, I64_MIN))
-    script.limits(0, NARROW_LIMITS[:GTM.first_block])
+    script.limits(0, GTM.limits(NARROW_ALPHA))
     script.zeros(2)
     script.length(3, 66)
     for defects in product(one_or_none(limit_defects), one_or_none(heavy_defects)):
@@ -251,7 +251,7 @@ def order_of_refusals(script, _):
 
 def smallest_number(script, _):
     """The smallest 64-bit number is too heavy wherever it is stored, and no limit."""
-    script.limits(0, NARROW_LIMITS[:GTM.first_block])
+    script.limits(0, GTM.limits(NARROW_ALPHA))
     script.zeros(2)
     for place in range(GTM.table_length):
         changed_copy(script, (place, I64_MIN))

@@ -1,4 +1,5 @@
-"""Sections in which nothing is drawn: the checked values, every limit, wrong lengths, every mixture of defects, single numbers.
+"""Sections in which nothing is drawn: the checked values, every limit, wrong lengths, every mixture of defects, single numbers, fine
+cuts that belong to a cut and that do not.
 
 Those of mixed defects and of edges are for the shape of the script that they are given.
 """
@@ -7,19 +8,19 @@ from itertools import product
 
 from draws import I64_MAX, I64_MIN, MASK
 from makers import (
-    INFINITY, NARROW_LIMITS, PROMISED_SIZES, QUIET_NAN, X_CONSTANT, X_LOW_AAA, ZEROS, bits_of_ratio, bits_of_whole, corners, last_accepted,
-    places_of_block, with_reading,
+    INFINITY, NARROW_ALPHA, PROMISED_SIZES, QUIET_NAN, X_CONSTANT, X_LOW_AAA, ZEROS, bits_of_ratio, bits_of_whole, corners, cut_at,
+    full_number, last_accepted, places_of_block, with_reading,
 )
-from model import BLOCK_LENGTH, CUMULUS, FIRST_BLOCK, HIGHEST, LOWEST, PUBLISHED_TABLE, TABLE_LENGTH
-from shapes import HIGH_GROUP, LOW_GROUP
+from model import BLOCK_LENGTH, CUMULUS, FINE_CUT, FIRST_BLOCK, HIGHEST, LOWEST, PUBLISHED_TABLE, TABLE_LENGTH
+from shapes import ALPHA_CUT, HIGH_GROUP, LOW_GROUP
 from tables import WEIGHT_CAP
 
 ODD_VARIABLES = (5, 6, 1 << 32, (1 << 32) + 1, 1 << 63, MASK)
 # the length of a table, and others about it and about those of its parts
-TABLE_LENGTHS = (311, 0, 1, 6, 10, 11, 61, 310, 312, 320)
+TABLE_LENGTHS = (312, 0, 1, 6, 11, 12, 62, 311, 313, 320)
 # those of a read and of a table, and others about them
 ROOMS = (6, 5, 7) + TABLE_LENGTHS
-NO_TABLE_ROOMS = (0, 5, 6, 7, 310, 312, 320)
+NO_TABLE_ROOMS = (0, 5, 6, 7, 311, 313, 320)
 ENDS = (I64_MIN, I64_MIN + 1, -(1 << 32), -(1 << 31), (1 << 31) - 1, 1 << 32, I64_MAX - 1, I64_MAX)
 
 
@@ -56,7 +57,7 @@ def checked_values(script, _):
     script.comment("8 and 9")
     for shift in (100, -1000, -1001):
         script.move(0, 0, shift, 1)
-        script.show(1, 0, 21)
+        script.show(1, 0, 22)
     checked_weights(script)
 
 
@@ -79,12 +80,13 @@ def checked_weights(script):
         script.set(0, X_CONSTANT, value)
         script.read(0, ZEROS)
         script.move(0, 0, 0, 1)
-    script.comment("11")
-    script.limits(0, NARROW_LIMITS)
-    script.set(0, X_LOW_AAA, 9000000000000)
-    for alpha, shift in ((0, 0), (-25, 100), (-50, -100), (-75, 1), (-100, -1)):
-        script.read(0, with_reading(0, alpha))
-        script.move(0, 0, shift, 1)
+    script.comment("11, with the first and the last fine cut of its cut, and one between")
+    for thousandths in (0, 600, 999):
+        script.limits(0, CUMULUS.limits(NARROW_ALPHA, thousandths=thousandths))
+        script.set(0, X_LOW_AAA, 9000000000000)
+        for alpha, shift in ((0, 0), (-25, 100), (-50, -100), (-75, 1), (-100, -1)):
+            script.read(0, with_reading(0, alpha))
+            script.move(0, 0, shift, 1)
 
 
 def readings_at_the_limits(script, _):
@@ -127,9 +129,9 @@ def shifts_at_the_ends(script, _):
     """Shifts at the ends of 64 and of 32 bits, of tables at both ends of the limits too."""
     script.published(0)
     script.limits(1, PUBLISHED_TABLE[:FIRST_BLOCK])
-    script.limits(2, [-2000, 0, 2000] + [-2000, 2000] * 4)
-    script.limits(3, [-2000, -2000, -1999] + [-2000, -2000] * 4)
-    script.limits(4, [1999, 1999, 2000] + [2000, 2000] * 4)
+    script.limits(2, CUMULUS.limits((-2000, 0, 2000), (-2000, 2000) * 4))
+    script.limits(3, CUMULUS.limits((-2000, -2000, -1999), (-2000, -2000) * 4, 1))
+    script.limits(4, CUMULUS.limits((1999, 1999, 2000), (2000, 2000) * 4, 999))
     script.length(5, TABLE_LENGTH)
     for v in range(5):
         for shift in ENDS + ((1 << 32) + 1, I64_MIN + 2000, I64_MIN + 2001, I64_MAX - 2000, I64_MAX - 1999):
@@ -201,11 +203,11 @@ def lay_out_defects(script, heavy_to_move):
     """Spaces 0 to 7 for every mixture of a wrong length (1), limits that are not good (2) and a number that is too heavy (4)."""
     shape = script.shape
     for mask in range(8):
-        script.limits(mask, NARROW_LIMITS[:shape.first_block])
+        script.limits(mask, shape.limits(NARROW_ALPHA))
         if heavy_to_move:
             script.set(mask, shape.place_of(0, LOW_GROUP, (3, 0)), 9000000000000)
         if mask & 2:
-            script.set(mask, 3, 1)          # the second variable's lowest above its highest 0
+            script.set(mask, shape.lowest[1], 1)        # above its highest 0
         if mask & 4:
             script.set(mask, shape.table_length - shape.block_length - 1, I64_MIN)
         if mask & 1:
@@ -267,12 +269,13 @@ def one_or_none(changes):
 
 def kinds_of_defects(script, _):
     """Two and three defects of each kind together, for each operation."""
-    limit_defects = ((0, 2001), (10, -2001), (1, 1), (0, 1), (4, -1), (7, 1))
-    heavy_defects = ((11, WEIGHT_CAP + 1), (30, I64_MIN), (160, I64_MAX), (310, -WEIGHT_CAP - 1))
-    script.limits(0, NARROW_LIMITS)
+    limit_defects = ((0, 2001), (11, -2001), (0, 1), (5, -1), (8, 1), (FINE_CUT, 1000))
+    heavy_defects = ((12, WEIGHT_CAP + 1), (31, I64_MIN), (161, I64_MAX), (311, -WEIGHT_CAP - 1))
+    no_high_piece = tuple(cut_at(CUMULUS, 1))
+    script.limits(0, CUMULUS.limits(NARROW_ALPHA))
     script.zeros(2)
-    script.length(3, 312)
-    for defects in product(one_or_none(limit_defects), one_or_none(heavy_defects)):
+    script.length(3, 313)
+    for defects in product([no_high_piece] + one_or_none(limit_defects), one_or_none(heavy_defects)):
         changed_copy(script, *sum(defects, ()))
         script.read(1, [2, 0, 0, 0, 0])
         script.read(1, [0, 0, 0, 1, -1], 7)
@@ -287,8 +290,8 @@ def kinds_of_defects(script, _):
 # ------------------------------------------------------------- single numbers
 
 def smallest_number(script, _):
-    """The smallest 64-bit number is too heavy wherever it is stored."""
-    script.limits(0, NARROW_LIMITS)
+    """The smallest 64-bit number is too heavy wherever it is stored, and no limit."""
+    script.limits(0, CUMULUS.limits(NARROW_ALPHA))
     script.zeros(2)
     for place in range(TABLE_LENGTH):
         changed_copy(script, (place, I64_MIN))
@@ -302,7 +305,7 @@ def smallest_number(script, _):
 
 def single_numbers(script, _):
     """One stored number at a time, read in either piece and moved."""
-    script.limits(0, [-9, 2, 11, -8, 12, -7, 10, -6, 13, -5, 9])
+    script.limits(0, CUMULUS.limits((-9, 2, 11), (-8, 12, -7, 10, -6, 13, -5, 9), 700))
     script.zeros(2)
     for k in range(300):
         changed_copy(script, (FIRST_BLOCK + k, 1000003))
@@ -316,7 +319,7 @@ def edges_of_the_limits(script, _):
     """Limits just good and just not."""
     shape = script.shape
     state = [0] * shape.variable_count
-    script.limits(0, [-5, 0, 5] + [-5, 5] * (shape.variable_count - 1))
+    script.limits(0, shape.limits((-5, 0, 5), (-5, 5) * (shape.variable_count - 1)))
     script.zeros(2)
     for place in range(shape.first_block):
         for limit in (-2001, -2000, 2000, 2001, 1999, -1999):
@@ -325,7 +328,7 @@ def edges_of_the_limits(script, _):
             script.move(1, place % shape.variable_count, 0, 2)
     script.comment("lowest, cut and highest beside each other")
     for limits in product((-1, 0, 1), repeat=3):
-        changed_copy(script, *enumerate(limits))
+        changed_copy(script, *enumerate(shape.limits(limits)[:shape.lowest[1]]))
         script.read(1, state)
     for lowest_place, highest_place in shape.limit_places[1:]:
         for lowest, highest in ((0, 0), (1, 0), (0, -1), (-2000, 2000), (2000, 2000), (2000, -2000)):
@@ -337,18 +340,57 @@ def edges_of_the_reach(script, _):
     """The weights that go with a reach of 1 and with each piece's reach."""
     shape = script.shape
     script.comment("all limits 0 but alpha's highest: each reach is 1, and a number weighs its magnitude in any place")
-    script.limits(0, [0, 0, 1])
+    script.limits(0, shape.limits((0, 0, 1)))
     for place in places_of_block(shape):
         for number in (WEIGHT_CAP, -WEIGHT_CAP - 1):
             changed_copy(script, (place, number))
             script.read(1, with_reading(0, 0, shape))
-    script.comment("the high piece reaches from cut + 1")
-    script.limits(0, [-4, -3, -2])
-    for piece, power, reach in ((LOW_GROUP, 1, 4), (HIGH_GROUP, 1, 2), (LOW_GROUP, 3, 64), (HIGH_GROUP, 3, 8)):
-        for more in (0, 1):
-            changed_copy(script, (shape.place_of(0, piece, (power, 0)), WEIGHT_CAP // reach + more))
-            script.read(1, with_reading(0, -3, shape))
-            script.read(1, with_reading(0, -2, shape))
+    script.comment("where the low piece's reach ends, and where the high piece's starts")
+    for alpha in ((-4, -3, -2), (2, 3, 9), (-9, -5, -4), (4, 5, 6)):
+        limits = shape.limits(alpha)
+        script.limits(0, limits)
+        for piece, power in product((LOW_GROUP, HIGH_GROUP), (1, 3)):
+            place = shape.place_of(0, piece, (power, 0))
+            for more in (0, 1):
+                changed_copy(script, (place, full_number(shape, limits, place) + more))
+                script.read(1, with_reading(0, alpha[ALPHA_CUT], shape))
+                script.read(1, with_reading(0, alpha[ALPHA_CUT] + 1, shape))
+
+
+def fine_cuts(script, _):
+    """For each cut the fine cuts about its first and its last, those about zero, and far ones: which belong to it."""
+    script.limits(0, CUMULUS.limits((-2000, 0, 2000)))
+    script.zeros(2)
+    for cut in (-2000, -1999, -2, -1, 0, 1, 2, 313, 1998, 1999):
+        script.set(0, ALPHA_CUT, cut)
+        first, last = 1000 * cut, 1000 * cut + 999
+        for fine in (first - 1, first, first + 500, last, last + 1, -first, cut, -1001, -1000, -1, 0, 999, 1000, I64_MIN, I64_MAX):
+            script.set(0, FINE_CUT, fine)
+            script.read(0, ZEROS)
+            script.move(0, 1, 0, 2)
+    script.comment("a number that is the right fine cut once a multiple of 2^32 is taken off")
+    changed_copy(script, (ALPHA_CUT, 0), (FINE_CUT, 1 << 32))
+    script.read(1, ZEROS)
+    script.comment("the narrow table of the checked values")
+    script.limits(0, CUMULUS.limits(NARROW_ALPHA))
+    for fine in (-1001, -1000, -1, 0, 999, 1000):
+        script.set(0, FINE_CUT, fine)
+        script.read(0, ZEROS)
+        script.floats(0, ZEROS)
+        script.move(0, 0, 1, 2)
+
+
+def moved_fine_cuts(script, _):
+    """Moves of alpha take the fine cut along in its own unit, and those of the others leave it; there and back it is the same."""
+    script.zeros(1)
+    script.zeros(2)
+    for alpha, thousandths in (((-150, 313, 1000), 269), ((-3, -1, 5), 999), ((-3, -1, 5), 1), ((-7, 0, 7), 500), ((-2000, -1, 2000), 0)):
+        script.limits(0, CUMULUS.limits(alpha, (-5, 5) * 4, thousandths))
+        for variable, shift in ((0, 1), (0, -1), (0, 100), (0, -1000), (0, 1000), (0, -1001), (1, 3), (2, -3), (3, 3), (4, -3), (4, 1995)):
+            if script.move(0, variable, shift, 1):
+                script.show(1, 0, FIRST_BLOCK)
+                script.move(1, variable, -shift, 2)
+                script.show(2, 0, FINE_CUT + 1)
 
 
 SECTIONS = (
@@ -369,4 +411,6 @@ SECTIONS = (
     ("Single numbers", single_numbers),
     ("Edges of the limits", edges_of_the_limits),
     ("Edges of the reach", edges_of_the_reach),
+    ("Fine cuts that belong to a cut", fine_cuts),
+    ("Moved fine cuts", moved_fine_cuts),
 )

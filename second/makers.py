@@ -9,14 +9,16 @@ import door
 import tables
 from draws import I64_MAX, I64_MIN, signed
 from gtm_model import GTM
-from model import CUMULUS, FIRST_BLOCK, HIGHEST, LOWEST
-from shapes import ALPHA, ALPHA_CUT, HIGH_GROUP, LOW_GROUP
+from model import CUMULUS, FINE_CUT, FIRST_BLOCK, HIGHEST, LOWEST
+from shapes import ALPHA, ALPHA_CUT, HIGH_GROUP, LOW_GROUP, THOUSANDTHS
 from tables import WEIGHT_CAP
 
 ZEROS = [0, 0, 0, 0, 0]
-NARROW_LIMITS = (-100, 0, 1, 0, 0, 0, 0, 0, 0, 0, 0)
+NARROW_ALPHA = (-100, 0, 1)         # alpha's limits; with them go others of 0
 X_CONSTANT = FIRST_BLOCK
-X_LOW_AAA = CUMULUS.place_of(0, LOW_GROUP, (3, 0))      # place 17
+X_LOW_AAA = CUMULUS.place_of(0, LOW_GROUP, (3, 0))      # place 18
+# how far fine cuts lie above the whole one: at the ends, and on both sides of a half, from which on alpha is rounded past the cut
+THOUSANDTHS_ABOVE = (0, 499, 500, 501, 999)
 # sizes up to which each single move of a published table is accepted, by variable number
 PROMISED_SIZES = {CUMULUS: (300, 200, 100, 200, 200), GTM: (500, 1500)}
 
@@ -85,19 +87,33 @@ def nudge(script, gen, space, into):
 
 
 def spoil_limits(script, gen, space):
-    """Limits that are not good, or, the last way, just still good."""
+    """Limits that are not good, or, the last way of each kind, just still good."""
     t, shape = script.table(space), script.shape
     v, last = gen.take(1, shape.variable_count - 1), shape.first_block - 1
     lowest, highest = shape.lowest[v], shape.highest[v]
     far = gen.pick((I64_MIN, I64_MAX, gen.take(I64_MIN, I64_MAX)))
-    place, value = gen.pick((
-        (gen.take(0, last), 2001), (gen.take(0, last), -2001), (gen.take(0, last), far),
-        (1, t[2]),                          # no room for the high piece
-        (0, t[1] + 1),                      # no room for the low piece
-        (lowest, t[highest] + 1),
-        (lowest, t[highest]),               # still good: one single reading
-    ))
-    script.set(space, place, value)
+    ways = [
+        [(gen.take(0, last), 2001)], [(gen.take(0, last), -2001)], [(gen.take(0, last), far)],
+        cut_at(shape, t[2]),                # no room for the high piece
+        [(0, t[1] + 1)],                    # no room for the low piece
+        [(lowest, t[highest] + 1)],
+        [(lowest, t[highest])],             # still good: one single reading
+    ]
+    if shape.fine_cut is not None:
+        ways += [[(shape.fine_cut, fine)] for fine in other_fine_cuts(gen, t[ALPHA_CUT])]
+    for place, value in gen.pick(ways):
+        script.set(space, place, value)
+
+
+def cut_at(shape, cut):
+    """What to set for another cut: the fine one goes along."""
+    return [(ALPHA_CUT, cut)] + ([] if shape.fine_cut is None else [(shape.fine_cut, THOUSANDTHS * cut)])
+
+
+def other_fine_cuts(gen, cut):
+    """Those next to a cut's own on both sides, farther ones, the cut itself in milliradians; and two that belong to it."""
+    first, last = THOUSANDTHS * cut, THOUSANDTHS * cut + THOUSANDTHS - 1
+    return first - 1, last + 1, -first, gen.take(I64_MIN, I64_MAX), gen.take(-2000000, 2000999), cut, first, last
 
 
 def damage(script, gen, space):
@@ -110,6 +126,11 @@ def damage(script, gen, space):
 
 # --------------------------------------------------------------- random tables
 
+def drawn_thousandths(gen):
+    """How far a fine cut lies above the whole one."""
+    return gen.pick(THOUSANDTHS_ABOVE + (gen.take(0, 999),))
+
+
 def good_limits(gen, shape):
     """Good limits, drawn in the order of their places."""
     m = gen.pick((2000, 500, 50, 3))
@@ -117,6 +138,8 @@ def good_limits(gen, shape):
     limits[0] = gen.take(-m, m - 1)
     limits[1] = gen.take(limits[0], m - 1)
     limits[2] = gen.take(limits[1] + 1, m)
+    if shape.fine_cut is not None:
+        limits[shape.fine_cut] = THOUSANDTHS * limits[1] + drawn_thousandths(gen)
     for lowest, highest in shape.limit_places[1:]:
         if gen.take(0, 5) != 0:             # else both stay 0: the reach of 1
             limits[lowest] = gen.take(-m, m)
@@ -305,6 +328,16 @@ def bits_of_whole(number):
     return bits_of_ratio(number, 1)
 
 
+def beside(bits, step):
+    """The float itself (0) or a next one (-1 and 1); that before positive zero is the smallest negative one."""
+    return bits + step if bits + step >= 0 else door.SIGN_BIT | 1
+
+
+def bits_of_thousandths(thousandths):
+    """The float nearest to so many thousandths."""
+    return door.nearest_bits(Fraction(thousandths, THOUSANDTHS))
+
+
 SPECIAL_BITS = (
     0x0000000000000000, 0x8000000000000000,     # both zeros
     0x0000000000000001, 0x8000000000000001,     # smallest subnormals
@@ -350,11 +383,21 @@ def inside_float(gen, lo, hi):
     return half + gen.take(-1, 1)           # a neighbour, or the half itself
 
 
+def float_at_the_cut(gen, table):
+    """A float at the fine cut or in the milliradian about it, where the piece is the reading's own; or next to one."""
+    fine, cut = table[FINE_CUT], small(table[ALPHA_CUT])
+    thousandths = gen.pick((fine, fine, fine - 1, fine + 1, THOUSANDTHS * cut + 500, THOUSANDTHS * cut + gen.take(-500, 1500)))
+    return beside(bits_of_thousandths(thousandths), gen.take(-1, 1))
+
+
 def inside_float_state(gen, table):
+    """Five floats, mostly inside; in one of three states alpha is about the cut."""
     state = []
     for v in range(5):
         lo, hi = small(table[LOWEST[v]]), small(table[HIGHEST[v]])
         if lo > hi:
             lo = hi
         state.append(inside_float(gen, lo, hi))
+    if gen.take(0, 2) == 0:
+        state[ALPHA] = float_at_the_cut(gen, table)
     return state

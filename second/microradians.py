@@ -66,7 +66,7 @@ def pieces(script, _):
 # -------------------------------------------------------------------- refusals
 
 def rooms(script, _):
-    for room in (0, 1, 5, 6, 7, 8, 12, 311, 319, 320, 321, 322, 1 << 32, (1 << 32) + 6, 1 << 63, MASK):
+    for room in (0, 1, 5, 6, 7, 8, 12, 312, 319, 320, 321, 322, 1 << 32, (1 << 32) + 6, 1 << 63, MASK):
         for state in (ZEROS, ORDINARY, with_reading(0, 1000001), [0, 0, 0, 0, -500001]):
             script.microradians(state, room)
 

@@ -8,8 +8,10 @@ from shapes import Group, Shape, published_table
 
 ALPHA, BETA, XI, ETA, ZETA = range(5)
 
-# alpha lowest, cut, highest; then lowest and highest of beta, xi, eta, zeta
-PUBLISHED_LIMITS = (-150, 313, 1000, -500, 500, -200, 200, -400, 400, -500, 500)
+# 17.949 degrees in whole thousandths of a milliradian, rounded down
+PUBLISHED_FINE_CUT = 313269
+# alpha lowest, cut, highest, fine cut; then lowest and highest of beta, xi, eta, zeta
+PUBLISHED_LIMITS = (-150, 313, 1000, PUBLISHED_FINE_CUT, -500, 500, -200, 200, -400, 400, -500, 500)
 
 PRINTED = {
     # low piece, alpha alone
@@ -92,11 +94,11 @@ GROUPS = (
 LOW_GROUP, HIGH_GROUP, XI_GROUP, ZETA_GROUP = range(4)
 READING_OUTSIDE = (11, 12, 13, 14, 15)      # by variable number
 
-CUMULUS = Shape("abxez", GROUPS, 6, READING_OUTSIDE)
+CUMULUS = Shape("abxez", GROUPS, 6, READING_OUTSIDE, has_fine_cut=True)
 CUMULUS.published = published_table(CUMULUS, PUBLISHED_LIMITS, PRINTED, EQUATIONS_OF_BLOCK)
 
 # what this shape comes to, by name
 FIRST_BLOCK, BLOCK_LENGTH, BLOCK_COUNT = CUMULUS.first_block, CUMULUS.block_length, CUMULUS.block_count
 TABLE_LENGTH, READ_LENGTH = CUMULUS.table_length, CUMULUS.read_length
-LOWEST, HIGHEST = CUMULUS.lowest, CUMULUS.highest
+LOWEST, HIGHEST, FINE_CUT = CUMULUS.lowest, CUMULUS.highest, CUMULUS.fine_cut
 PUBLISHED_TABLE = CUMULUS.published

@@ -9,6 +9,7 @@ from fractions import Fraction
 import desk
 import door
 import fixed_point
+import floats
 import gtm
 import gtm_model
 import microradians
@@ -18,10 +19,10 @@ from desk import lent
 from draws import Generator
 from gtm_model import GTM
 from makers import (
-    NARROW_LIMITS, PROMISED_SIZES, SPECIAL_BITS, any_variable, filling_place, full_number, good_limits, inside_float_state,
+    NARROW_ALPHA, PROMISED_SIZES, SPECIAL_BITS, any_variable, filling_place, full_number, good_limits, inside_float_state,
     inside_state, last_accepted, move_factor_at, one_in_each_block, random_table, rest_of_cap, shifted, with_reading,
 )
-from model import BLOCK_COUNT, CUMULUS, EQUATIONS_OF_BLOCK, FIRST_BLOCK, GROUPS, PRINTED, PUBLISHED_TABLE
+from model import BLOCK_COUNT, CUMULUS, EQUATIONS_OF_BLOCK, FINE_CUT, FIRST_BLOCK, GROUPS, PRINTED, PUBLISHED_TABLE
 from roundings import half_away, half_even
 from script import Script
 from shapes import parse_polynomial
@@ -75,14 +76,18 @@ def move(table, variable, shift, shape=CUMULUS):
     return number, tuple(output)
 
 
+def move_number(table, variable, shift, shape=CUMULUS):
+    return tables.move_number(shape, table, variable, shift, shape.table_length)
+
+
 def bits_of_float(number):
     return struct.unpack(">Q", struct.pack(">d", number))[0]
 
 
-def float_read(*readings):
-    """Float door on the published table; missing readings are zero."""
+def float_read(*readings, table=T):
+    """Float door on the published table or another; missing readings are zero."""
     bits = [bits_of_float(reading) for reading in readings]
-    return door.read_floats(T, bits + [0] * (5 - len(bits)))
+    return door.read_floats(table, bits + [0] * (5 - len(bits)))
 
 
 def check_printed_text():
@@ -91,11 +96,13 @@ def check_printed_text():
     place = FIRST_BLOCK
     for _ in range(BLOCK_COUNT):
         for group in GROUPS:
-            assert place == CUMULUS.place_of((place - 11) // 50, GROUPS.index(group), (0, 0))
+            assert place == CUMULUS.place_of((place - 12) // 50, GROUPS.index(group), (0, 0))
             for p, q in group.powers:
                 assert T[place] % 1000 ** (4 - p - q) == 0
                 place += 1
-    assert place == len(T) == 311
+    assert place == len(T) == 312
+    assert T[:FIRST_BLOCK] == (-150, 313, 1000, 313269, -500, 500, -200, 200, -400, 400, -500, 500)
+    assert [parts[0].start for parts in CUMULUS.parts] == [12, 62, 112, 162, 212, 262]
     # 17.949 degrees lies between 313 and 314 mrad, with pi held between two
     # fractions
     turn = Fraction("17.949") / 180 * 1000
@@ -122,6 +129,11 @@ def printed_value(equations, radians, terms=TERMS):
 def printed_values(is_low, radians):
     """The six coefficients by the printed equations."""
     return [printed_value((low if is_low else high) + aileron + rudder, radians) for low, high, aileron, rudder in EQUATIONS_OF_BLOCK]
+
+
+def printed_bits(is_low, wholes):
+    """The six as floats, by the printed equations of a piece, at whole milliradians."""
+    return [door.answer_bits(int(answer * 10**17)) for answer in printed_values(is_low, [Fraction(reading, 1000) for reading in wholes])]
 
 
 def check_published_reads():
@@ -154,7 +166,7 @@ def check_values_1_to_7():
 def check_values_8_and_9():
     number, moved = move(T, 0, 100)
     assert number == 0
-    assert moved[:3] == (-250, 213, 900) and moved[3:11] == T[3:11]
+    assert moved[:4] == (-250, 213, 900, 213269) and moved[4:12] == T[4:12]
     for powers, stored in (((0, 0), 3504 * 10**12), ((1, 0), 52700 * 10**9),
                            ((2, 0), -194800 * 10**6), ((3, 0), -1148000 * 10**3)):
         assert moved[CUMULUS.place_of(X, 0, powers)] == stored
@@ -163,13 +175,16 @@ def check_values_8_and_9():
 
 
 def check_values_10_and_11():
-    for limits in (T[:11], NARROW_LIMITS):
-        lone = with_place(zero_table(limits), 11, 9 * 10**18)
+    for limits in (T[:12], CUMULUS.limits(NARROW_ALPHA)):
+        lone = with_place(zero_table(limits), 12, 9 * 10**18)
         assert soundness(lone) == 0
-        assert soundness(with_place(lone, 11, 9 * 10**18 + 1)) == 4
-    narrow = with_place(zero_table(NARROW_LIMITS), CUMULUS.place_of(X, 0, (3, 0)), 9 * 10**12)
-    assert soundness(narrow) == 0 and move(narrow, 0, 0)[0] == 0
-    assert move(narrow, 0, 100)[0] == 7 and move(narrow, 0, -100)[0] == 7
+        assert soundness(with_place(lone, 12, 9 * 10**18 + 1)) == 4
+    for thousandths in range(1000):
+        narrow = with_place(zero_table(CUMULUS.limits(NARROW_ALPHA, thousandths=thousandths)), CUMULUS.place_of(X, 0, (3, 0)), 9 * 10**12)
+        assert soundness(narrow) == 0 and move_number(narrow, 0, 0) == 0
+        assert move_number(narrow, 0, 100) == move_number(narrow, 0, -100) == 7
+    # by -100 the low piece reaches 101, not 100
+    assert tables.reaches(CUMULUS, tables.moved_limits(CUMULUS, narrow[:12], 0, -100), 0)[0] == 101
 
 
 def check_values_12_and_13():
@@ -180,6 +195,8 @@ def check_values_12_and_13():
         assert answers == [door.answer_bits(a) for a in exact]
     for reading in (1000.5, 1000.6, -150.5):
         assert float_read(reading) == (11, [0] * 6, bits_of_float(reading))
+    # past the fine cut and rounded down: the high piece at 313
+    assert float_read(313.4)[1] == printed_bits(False, with_reading(0, 313))
     assert float_read(2000.0, 0.0, 0.0, 0.0, float("nan")) == (25, [0] * 6, 0)
     assert float_read(0.0, 0.0, 0.0, -400.5, float("nan")) == (25, [0] * 6, 0)
     assert float_read()[1][X] == bits_of_float(-0.02566)
@@ -191,6 +208,45 @@ def check_worked_halves():
         assert float_read(reading)[1][X] == x
     assert float_read(2.5, -2.5, 0.5, -0.5, 1.5)[1] == [
         0xBF988C805397BCAA, 0x3FABACEC5B99348F, 0xBFD745B91E99C578, 0x3FA87D64852D9E37, 0x3FAD8FB5AECA2C15, 0x3FA7F08144DB2792]
+
+
+def check_worked_fine_cuts():
+    """The bits that were worked out for the request to choose the piece by the reading as given."""
+    low_at_313, high_at_313, high_at_314 = 0xBFAAA323B5D99794, 0xBFAAD8AF3F744168, 0xBFAAE756062ACD3F
+    for reading, x in ((313.0, low_at_313), (313.26899999999995, low_at_313), (313.269, high_at_313), (313.4, high_at_313),
+                       (313.5, high_at_314)):
+        assert float_read(reading)[0] == 0 and float_read(reading)[1][X] == x
+    assert low_at_313 == bits_of_float(-0.05202590556) and high_at_313 == bits_of_float(-0.0524344220122)
+    assert value(T, X, with_reading(0, 313)) == -5202590556000000       # the whole reading is read in the low piece
+    slopes = zero_table(CUMULUS.limits((-2, 3, 9), thousandths=700))
+    for group, powers, number in ((0, (0, 0), 5), (0, (1, 0), 1), (1, (1, 0), 1000)):
+        slopes = with_place(slopes, CUMULUS.place_of(X, group, powers), number)
+    assert slopes == made(floats.slopes, CUMULUS, 0, floats.SLOPES_LIMITS)
+    for reading, x in ((3.4, 8), (3.6, 9), (3.7, 4000), (3.71, 4000)):
+        assert float_read(reading, table=slopes)[1][X] == bits_of_float(x / 1e17)
+    assert value(slopes, X, with_reading(0, 4)) == 4000
+
+
+def check_fine_cuts():
+    """The cut is the fine one divided by 1000 and rounded down, below zero too."""
+    for cut, fine, number in ((0, -1, 3), (0, 0, 0), (0, 999, 0), (0, 1000, 3), (-1, -1, 0), (-1, -1000, 0), (-1, -1001, 3), (-1, 0, 3)):
+        assert soundness(zero_table((-100, cut, 1, fine) + (0,) * 8)) == number
+    # the ends: no fine cut of a sound table passes them
+    for alpha, thousandths in (((-2000, -2000, -1999), 0), ((1999, 1999, 2000), 999)):
+        limits = CUMULUS.limits(alpha, thousandths=thousandths)
+        assert soundness(zero_table(limits)) == 0 and -2000000 <= limits[FINE_CUT] <= 2000999
+    for shift in range(-60, 61, 7):
+        for variable in range(5):
+            assert move(T, variable, shift)[1][FINE_CUT] == (313269 - 1000 * shift if variable == 0 else 313269)
+
+
+def check_weights():
+    """The weights of the published table: those of the high pieces, from the cut on, are what they were from cut + 1 on."""
+    high = [112553887000000000, 95993474500000000, 452817587000000000, 92497075500000000, 256172429500000000, 65426586000000000]
+    assert tables.weights(CUMULUS, T) == [
+        98447768792000000, 150094184133600000, 381563507968000000, 125970575418400000, 253967856924000000, 115456288434400000] + high
+    with replaced([(CUMULUS, "high_start", 1)]):
+        assert tables.weights(CUMULUS, T)[6:] == high
 
 
 def check_nearest(bits, exact):
@@ -233,13 +289,21 @@ def check_drawn_rounding():
 
 
 def check_promised_moves():
-    """Both extremes of every promised size, and the sizes in between."""
+    """Every promised size, and the tables at both extremes."""
     for variable, size in enumerate((300, 200, 100, 200, 200)):
-        for shift in range(-size, size + 1, 25):
-            assert move(T, variable, shift)[0] == 0
+        assert all(move_number(T, variable, shift) == 0 for shift in range(-size, size + 1))
         for shift in (-size, size):
             number, moved = move(T, variable, shift)
             assert number == 0 and soundness(moved) == 0
+
+
+def check_largest_moves():
+    """The largest single moves of the published table, and by which number the next one is refused."""
+    for variable, up, down, past in ((0, 635, 553, 7), (1, 1500, 1500, 6), (2, 334, 334, 7), (3, 1600, 1600, 6), (4, 1500, 1500, 6)):
+        for sign, size in ((1, up), (-1, down)):
+            assert last_accepted(CUMULUS, T, variable, sign) == size
+            assert all(move_number(T, variable, sign * shift) == 0 for shift in range(size + 1))
+            assert move_number(T, variable, sign * (size + 1)) == past
 
 
 def check_one_move(gen, shape, table, variable, shift):
@@ -312,7 +376,8 @@ def check_refusal_order():
 def check_order_of(shape):
     """The refusals of each operation in their order, and the smallest number at each place."""
     table, state, length = shape.published, [1001] * shape.variable_count, shape.table_length
-    bad, heavy = with_place(table, 3, table[4] + 1), with_place(table, length - 1, -(1 << 63))
+    bad = with_place(table, shape.lowest[1], table[shape.highest[1]] + 1)
+    heavy = with_place(table, length - 1, -(1 << 63))
     assert tables.read(shape, table[:-1], state, []) == 1
     assert tables.read(shape, bad, state, []) == 2
     assert tables.read(shape, bad, state, lent(shape.read_length)) == 3
@@ -323,7 +388,7 @@ def check_order_of(shape):
     assert tables.move(shape, bad, 9, 0, lent(length)) == 5
     assert tables.move(shape, bad, 0, 5000, lent(length)) == 3
     assert tables.move(shape, heavy, 0, 5000, lent(length)) == 4
-    narrow = zero_table(NARROW_LIMITS[:shape.first_block], shape)
+    narrow = zero_table(shape.limits(NARROW_ALPHA), shape)
     for place in range(shape.first_block, length):
         assert soundness(with_place(narrow, place, -(1 << 63)), shape) == 4
 
@@ -368,16 +433,22 @@ def check_moves_at_cap():
 
 
 def check_float_reads():
-    """Floats that are whole agree with the whole-number read, others by rounding."""
+    """Against the printed equations: those of the piece of alpha as given, at the rounded readings. Floats that are whole agree with the
+    whole-number read too."""
     gen = Generator(103)
-    for _ in range(200):
+    across = 0
+    for _ in range(300):
         state = inside_float_state(gen, T)
         wholes = [half_away(door.exact_value(bits)) for bits in state]
         number, answers, back = door.read_floats(T, state)
-        expected, exact = read(T, wholes)
-        assert number == expected and back == (state[number - 11] if number else 0)
+        assert number == read(T, wholes)[0] and back == (state[number - 11] if number else 0)
         if number == 0:
-            assert answers == [door.answer_bits(a) for a in exact]
+            is_low = door.exact_value(state[0]) <= Fraction("313.269")
+            assert answers == printed_bits(is_low, wholes)
+            across += is_low != (wholes[0] <= 313)
+            if state == [bits_of_float(reading) for reading in wholes]:
+                assert answers == [door.answer_bits(answer) for answer in read(T, wholes)[1]]
+    assert across > 10
 
 
 def check_examples_in_microradians():
@@ -515,14 +586,14 @@ def check_sizes_of_the_gtm():
         assert last_accepted(GTM, GTM.published, variable, sign) == size
         assert move(GTM.published, variable, sign * (size + 1), GTM)[0] == 7
         for shift in range(PROMISED_SIZES[GTM][variable] + 1):
-            assert tables.move_number(GTM, GTM.published, variable, sign * shift, 65) == 0
+            assert move_number(GTM.published, variable, sign * shift, GTM) == 0
 
 
 def check_other_shape():
     """A table of the other shape is refused by its length, and so is a room."""
     assert read(T, [0, 0], GTM)[0] == read(GTM.published, [0] * 5)[0] == 1
     assert move(T, 0, 0, GTM)[0] == move(GTM.published, 0, 0)[0] == 1
-    assert tables.publish(GTM, lent(311)) == tables.publish(CUMULUS, lent(65)) == 2
+    assert tables.publish(GTM, lent(312)) == tables.publish(CUMULUS, lent(65)) == 2
     assert tables.read(GTM, GTM.published, [0, 0], lent(6)) == tables.read(CUMULUS, T, [0] * 5, lent(3)) == 2
 
 
@@ -568,7 +639,7 @@ floats 1 4060eccccccccccd 0 0 0 0
 def check_desk():
     """The vane on the wing as a script, and lines that are not understood."""
     answers = desk.run(VANE).split(b"\n")
-    assert answers[0].startswith(b"0 wrote 311 sum ") and answers[1].startswith(b"0 wrote 311 sum ")
+    assert answers[0].startswith(b"0 wrote 312 sum ") and answers[1].startswith(b"0 wrote 312 sum ")
     assert answers[2].split()[5] == b"-13507000000000000" and answers[3] == b"11 untouched"
     assert answers[4].split()[6] == b"%x" % bits_of_float(-0.13507) and answers[5:] == [b""]
     use = b"? use: sum SPACE\n"
@@ -579,8 +650,8 @@ def check_desk():
         (b"Sum 0", b"? no such command\n"), (b"sum\t0", b"? no such command\n"),
         (b"length 0 320\nlength 0 321", b"ok\n? there is room for 320 numbers\n"),
         (b"read 0 321 0 0 0 0 0", b"? there is room for 320 numbers\n"),
-        (b"set 0 311 1\nset 0 310 -0\nset 0 310 -9223372036854775809", b"? no such place\nok\n? use: set SPACE PLACE NUMBER\n"),
-        (b"show 0 311 0\nshow 0 311 1\nshow 0 0 3", b"\n? no such place\n0 0 0\n"),
+        (b"set 0 312 1\nset 0 311 -0\nset 0 311 -9223372036854775809", b"? no such place\nok\n? use: set SPACE PLACE NUMBER\n"),
+        (b"show 0 312 0\nshow 0 312 1\nshow 0 0 3", b"\n? no such place\n0 0 0\n"),
         (b"length 0 2\nset 0 1 7\ncopy 0 3\nlength 3 4\nshow 3 0 4", b"ok\nok\nok\nok\n0 7 0 0\n"),
         (b"floats 0 g 0 0 0 0", b"? use: floats SPACE ALPHA BETA XI ETA ZETA\n"),
         (b"gtm_publish", b"? use: gtm_publish INTO\n"), (b"gtm_move 0 0 0", b"? use: gtm_move SPACE VARIABLE SHIFT INTO\n"),
@@ -594,8 +665,9 @@ def check_desk():
 
 CHECKS = (
     check_printed_text, check_published_reads, check_values_1_to_7, check_values_8_and_9, check_values_10_and_11,
-    check_values_12_and_13, check_worked_halves, check_exact_values, check_rounding, check_drawn_rounding, check_promised_moves, check_moves,
-    check_refusal_order, check_tables_at_cap, check_moves_at_cap, check_float_reads, check_examples_in_microradians,
+    check_values_12_and_13, check_worked_halves, check_worked_fine_cuts, check_fine_cuts, check_weights, check_exact_values, check_rounding,
+    check_drawn_rounding, check_promised_moves, check_largest_moves, check_moves, check_refusal_order, check_tables_at_cap,
+    check_moves_at_cap, check_float_reads, check_examples_in_microradians,
     check_errors_in_microradians, check_whole_milliradians, check_two_roundings, check_halves_in_microradians,
     check_printed_text_of_the_gtm, check_boundary_of_the_gtm, check_published_reads_of_the_gtm, check_worked_values_of_the_gtm,
     check_sizes_of_the_gtm, check_other_shape, check_line_program, check_draws, check_desk,

@@ -1,7 +1,7 @@
 """What the tables of a model look like, and how its published table is filled from printed text.
 
-A shape says how many variables, blocks and groups there are, where everything stands in a table, and by which numbers readings are
-refused. Nothing in this file is rounded.
+A shape says how many variables, blocks and groups there are, where everything stands in a table, how far each piece reaches in alpha,
+and by which numbers readings are refused. Nothing in this file is rounded.
 
 Spelling of a polynomial: terms joined by '+' or '-', every part separated by blanks. A term is a decimal number followed by its factors;
 a factor is one of the model's letters with an optional power digit.
@@ -11,6 +11,7 @@ from fractions import Fraction
 
 ALPHA = 0                           # the first variable of every shape, the one whose cut parts the two pieces
 ALPHA_CUT = 1                       # the place of the cut
+THOUSANDTHS = 1000                  # of a milliradian: the unit of the fine cut
 LOW_GROUP, HIGH_GROUP = PIECES = (0, 1)
 
 
@@ -29,9 +30,13 @@ class Group:
 
 
 class Shape:
-    """The tables of one model: alpha lowest, cut, highest; lowest and highest of the other variables; then the blocks."""
+    """The tables of one model: alpha lowest, cut, highest; lowest and highest of the other variables; then the blocks.
 
-    def __init__(self, letters, groups, block_count, reading_outside):
+    Where readings between two whole ones choose their piece themselves, the cut in thousandths, the fine cut, stands behind alpha's
+    highest. Such a reading may be rounded past the cut, so there the pieces overlap in their reaches; else they part at the cut.
+    """
+
+    def __init__(self, letters, groups, block_count, reading_outside, has_fine_cut=False):
         self.letters = letters                          # of the variables, in the order in which they are numbered
         self.variable_count = len(letters)
         self.reading_outside = reading_outside          # the refusals of readings, by variable number
@@ -39,17 +44,27 @@ class Shape:
         self.side_groups = tuple(range(len(PIECES), len(groups)))
         self.block_count = block_count
         self.block_length = sum(len(group.powers) for group in groups)
-        self.first_block = 2 * self.variable_count + 1
+        self.fine_cut = 3 if has_fine_cut else None     # its place
+        others = 4 if has_fine_cut else 3               # the place of the second variable's lowest limit
+        self.first_block = others + 2 * (self.variable_count - 1)
         self.table_length = self.first_block + block_count * self.block_length
         self.read_length = block_count
         # places of the lowest and highest limit, by variable number
-        self.lowest = (0,) + tuple(range(3, self.first_block, 2))
-        self.highest = (2,) + tuple(range(4, self.first_block, 2))
-        # places that go along when a variable's datum moves
+        self.lowest = (0,) + tuple(range(others, self.first_block, 2))
+        self.highest = (2,) + tuple(range(others + 1, self.first_block, 2))
+        # where the low piece's reach ends and the high one's starts, counted from the cut
+        self.low_end, self.high_start = (1, 0) if has_fine_cut else (0, 1)
+        # places that go along when a variable's datum moves; the fine cut goes along in its own unit
         self.limit_places = ((0, ALPHA_CUT, 2),) + tuple(zip(self.lowest[1:], self.highest[1:]))
         # by block, then by group
         self.parts = [[self.part_of(block, group) for group in groups] for block in range(block_count)]
         self.published = None
+
+    def limits(self, alpha, others=(), thousandths=0):
+        """Limits as they stand in a table: alpha's, the fine cut so far above the cut where there is one, the others', and zeros."""
+        fine = () if self.fine_cut is None else (THOUSANDTHS * alpha[ALPHA_CUT] + thousandths,)
+        given = tuple(alpha) + fine + tuple(others)
+        return given + (0,) * (self.first_block - len(given))
 
     def part_of(self, block, group):
         """Where a group of a block stands in a table."""

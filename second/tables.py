@@ -13,7 +13,7 @@ from functools import lru_cache
 from math import comb
 from operator import mul
 
-from shapes import ALPHA, ALPHA_CUT, HIGH_GROUP, LOW_GROUP, PIECES
+from shapes import ALPHA, ALPHA_CUT, HIGH_GROUP, LOW_GROUP, PIECES, THOUSANDTHS
 
 DONE = 0
 WRONG_TABLE_LENGTH = 1
@@ -48,18 +48,46 @@ def limits_of(shape, table):
     return list(table[:shape.first_block])
 
 
-def limits_are_good(shape, limits):
-    if any(not -LIMIT_CAP <= limit <= LIMIT_CAP for limit in limits):
-        return False
-    if not limits[0] <= limits[ALPHA_CUT] < limits[2]:
-        return False
+def in_range(limit):
+    return -LIMIT_CAP <= limit <= LIMIT_CAP
+
+
+def all_in_range(shape, limits):
+    """Every limit but the fine cut, which the whole one bounds."""
+    return all(in_range(limit) for place, limit in enumerate(limits) if place != shape.fine_cut)
+
+
+def alpha_in_order(limits):
+    return limits[0] <= limits[ALPHA_CUT] < limits[2]
+
+
+def others_in_order(shape, limits):
     return all(limits[shape.lowest[v]] <= limits[shape.highest[v]] for v in range(1, shape.variable_count))
+
+
+def whole_of(fine):
+    """The whole cut that belongs to a fine one: rounded down, below zero too."""
+    return fine // THOUSANDTHS
+
+
+def cuts_agree(shape, limits):
+    return shape.fine_cut is None or limits[ALPHA_CUT] == whole_of(limits[shape.fine_cut])
+
+
+def limits_are_good(shape, limits):
+    return all_in_range(shape, limits) and alpha_in_order(limits) and others_in_order(shape, limits) and cuts_agree(shape, limits)
+
+
+def moved_fine_cut(fine, shift):
+    return fine - THOUSANDTHS * shift
 
 
 def moved_limits(shape, limits, variable, shift):
     moved = list(limits)
     for place in shape.limit_places[variable]:
         moved[place] -= shift
+    if variable == ALPHA and shape.fine_cut is not None:
+        moved[shape.fine_cut] = moved_fine_cut(limits[shape.fine_cut], shift)
     return moved
 
 
@@ -71,9 +99,9 @@ def reach_between(lowest, highest):
 def reaches(shape, limits, piece):
     """The reach of each variable; alpha's depends on the piece."""
     if piece == LOW_GROUP:
-        alpha = reach_between(limits[0], limits[ALPHA_CUT])
+        alpha = reach_between(limits[0], limits[ALPHA_CUT] + shape.low_end)
     else:
-        alpha = reach_between(limits[ALPHA_CUT] + 1, limits[2])
+        alpha = reach_between(limits[ALPHA_CUT] + shape.high_start, limits[2])
     others = [reach_between(limits[shape.lowest[v]], limits[shape.highest[v]])
               for v in range(1, shape.variable_count)]
     return [alpha] + others
@@ -225,8 +253,9 @@ def is_no_variable(shape, variable):
 
 
 def moved_limit_outside(shape, table, variable, shift):
+    """Of the whole limits; the fine cut is not looked at."""
     new = moved_limits(shape, limits_of(shape, table), variable, shift)
-    return any(not -LIMIT_CAP <= new[place] <= LIMIT_CAP for place in shape.limit_places[variable])
+    return not all(in_range(new[place]) for place in shape.limit_places[variable])
 
 
 def move_is_too_heavy(shape, table, variable, shift):

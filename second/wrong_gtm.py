@@ -11,12 +11,12 @@ from gtm_model import EQUATIONS_OF_BLOCK, ETA, GTM, PRINTED, PUBLISHED_LIMITS, p
 from model import CUMULUS
 from shapes import ALPHA, HIGH_GROUP, LOW_GROUP
 from wrong_models import (
-    Wrong, blocks_weighed_together, cut_at_highest, cut_moved_the_other_way, ends_excluded, first_row_left_out, high_reach_from_cut,
-    in_shape, in_tables, last_block_not_weighed, last_row_left_out, limits_moved_once, limits_moved_the_other_way, longer_taken,
-    low_and_high_exchanged, lowest_below_cut, not_moved, only_moved_table_weighed, others_not_single, published_with, pure_places_dropped,
-    readings_cut, refused_move_writes_limits, right_limits_are_good, right_move, right_power_moved, right_publish, right_reaches,
-    right_read, right_term_moved, rows_and_columns_exchanged, shift_cut, shorter_taken, smallest_is_its_own_magnitude, variable_cut,
-    weighed_at_old_reach, weighed_by, with_test, wrapped_weights,
+    Wrong, blocks_weighed_together, cut_at_highest, cut_moved_by, ends_excluded, first_row_left_out, in_shape, in_tables,
+    last_block_not_weighed, last_row_left_out, limits_moved_once, limits_moved_the_other_way, longer_taken, low_and_high_exchanged,
+    lowest_below_cut, not_moved, only_moved_table_weighed, others_not_single, published_with, pure_places_dropped, readings_cut,
+    refused_move_writes_limits, right_limits_are_good, right_move, right_power_moved, right_publish, right_read, right_term_moved,
+    rows_and_columns_exchanged, shift_cut, shorter_taken, smallest_is_its_own_magnitude, variable_cut, weighed_at_old_reach, weighed_by,
+    with_test, wrapped_weights,
 )
 
 
@@ -91,14 +91,6 @@ def number_of_cumulus_taken(shape, table, variable, shift, output):
     return right_move(shape, table, {3: ETA, ETA: 3}.get(variable, variable), shift, output)
 
 
-def low_reach_past_cut(shape, limits, piece):
-    """The low piece reaches one further than its cut."""
-    radii = right_reaches(shape, limits, piece)
-    if piece == LOW_GROUP:
-        radii[ALPHA] = tables.reach_between(limits[0], limits[1] + 1)
-    return radii
-
-
 def eta_limits_not_looked_at(shape, limits):
     return right_limits_are_good(shape, limits[:3] + [0, 0])
 
@@ -118,17 +110,16 @@ MODELS = (
     Wrong("the eta expressions in the high piece only", "GTM readings at the limits", "gtm_read", eta_expressions_in((HIGH_GROUP,))),
     Wrong("the eta expressions in place of alpha's", "GTM readings at the limits", "gtm_read", eta_expressions_instead()),
     Wrong("12 for eta's refusal", "Order of refusals of GTM readings", "gtm_read", in_gtm("reading_outside", (11, 12))),
-    Wrong("the GTM's cut at 291", "GTM readings at the limits", "gtm_read", published_with(GTM, 1, 291)),
-    Wrong("the GTM's cut at 289", "GTM readings at the limits", "gtm_read", published_with(GTM, 1, 289)),
-    Wrong("the GTM's cut at 16.111 degrees", "GTM readings at the limits", "gtm_read", published_with(GTM, 1, 281)),
+    Wrong("the GTM's cut at 291", "GTM readings at the limits", "gtm_read", published_with(GTM, (1, 291))),
+    Wrong("the GTM's cut at 289", "GTM readings at the limits", "gtm_read", published_with(GTM, (1, 289))),
+    Wrong("the GTM's cut at 16.111 degrees", "GTM readings at the limits", "gtm_read", published_with(GTM, (1, 281))),
     Wrong("drag before lift", "Worked values of the GTM table", "gtm_read", blocks_in_order(1, 0, 2)),
     Wrong("the pitching moment before drag", "Worked values of the GTM table", "gtm_read", blocks_in_order(0, 2, 1)),
     Wrong("the low and the high group of the GTM exchanged", "GTM readings in a grid", "gtm_read", low_and_high_exchanged(GTM)),
     Wrong("the GTM's numbers in units of 10^-12", "GTM readings in a grid", "gtm_read", in_larger_units()),
     # moves
-    Wrong("the GTM's cut left behind by a move", "The GTM table moved and read", "gtm_read", in_gtm("limit_places", ((0, 2), (3, 4)))),
-    Wrong("the GTM's cut moved the other way", "The GTM table moved and read", "gtm_read",
-          in_tables("moved_limits", cut_moved_the_other_way)),
+    Wrong("the GTM's cut left behind by a move", "The GTM table moved and read", "gtm_read", in_tables("moved_limits", cut_moved_by(0))),
+    Wrong("the GTM's cut moved the other way", "The GTM table moved and read", "gtm_read", in_tables("moved_limits", cut_moved_by(-1))),
     Wrong("eta's limits left behind by a move", "The GTM table moved and read", "gtm_read", in_gtm("limit_places", ((0, 1, 2), ()))),
     Wrong("the GTM's limits moved the other way", "The GTM table moved and read", "gtm_read",
           in_tables("moved_limits", limits_moved_the_other_way)),
@@ -167,10 +158,10 @@ MODELS = (
           in_tables("WEIGHT_CAP", tables.WEIGHT_CAP + 1)),
     Wrong("the cap of GTM tables one lower", "The cap at each place of a GTM table", "gtm_read",
           in_tables("WEIGHT_CAP", tables.WEIGHT_CAP - 1)),
-    Wrong("the GTM's high piece's reach from the cut", "Edges of the reach of GTM tables", "gtm_read",
-          in_tables("reaches", high_reach_from_cut)),
-    Wrong("the GTM's low piece's reach past the cut", "Weights of GTM tables at the cap", "gtm_read",
-          in_tables("reaches", low_reach_past_cut)),
+    Wrong("the GTM's high piece's reach from the cut", "Edges of the reach of GTM tables", "gtm_read", in_gtm("high_start", 0)),
+    Wrong("the GTM's low piece's reach past the cut", "Edges of the reach of GTM tables", "gtm_read", in_gtm("low_end", 1)),
+    Wrong("the reaches of the GTM's pieces as those of Cumulus tables are", "Weights of GTM tables at the cap", "gtm_read",
+          in_gtm("low_end", 1), in_gtm("high_start", 0)),
     Wrong("the two reaches of a GTM group exchanged", "Weights of GTM tables at the cap", "gtm_read",
           in_tables("weights", weighed_by(rows_and_columns_exchanged))),
     Wrong("the first row of a GTM group not weighed", "Weights of GTM tables at the cap", "gtm_read",
@@ -190,10 +181,10 @@ MODELS = (
     Wrong("GTM limits up to 2001", "Edges of the limits of GTM tables", "gtm_read", in_tables("LIMIT_CAP", 2001)),
     Wrong("GTM limits up to 1999", "Edges of the limits of GTM tables", "gtm_read", in_tables("LIMIT_CAP", 1999)),
     Wrong("the GTM's lowest has to be below the cut", "Edges of the limits of GTM tables", "gtm_read",
-          in_tables("limits_are_good", lowest_below_cut)),
+          in_tables("alpha_in_order", lowest_below_cut)),
     Wrong("the GTM's cut may be the highest", "Edges of the limits of GTM tables", "gtm_read",
-          in_tables("limits_are_good", cut_at_highest)),
-    Wrong("a single eta is no range", "Edges of the limits of GTM tables", "gtm_read", in_tables("limits_are_good", others_not_single)),
+          in_tables("alpha_in_order", cut_at_highest)),
+    Wrong("a single eta is no range", "Edges of the limits of GTM tables", "gtm_read", in_tables("others_in_order", others_not_single)),
     Wrong("the limits of eta not looked at", "Edges of the limits of GTM tables", "gtm_read",
           in_tables("limits_are_good", eta_limits_not_looked_at)),
     Wrong("the ends of the GTM's limits excluded", "GTM readings at the limits", "gtm_read", in_tables("is_outside", ends_excluded)),
@@ -201,9 +192,9 @@ MODELS = (
     Wrong("alpha and eta exchanged", "Single numbers of GTM tables", "gtm_read",
           in_tables("products", lru_cache(rows_and_columns_exchanged))),
     # lengths
-    Wrong("a table of 311 numbers taken by the GTM's read", "Tables of the other shape", "gtm_read",
+    Wrong("a table of 312 numbers taken by the GTM's read", "Tables of the other shape", "gtm_read",
           with_test(tables.WRONG_TABLE_LENGTH, either_length)),
-    Wrong("a table of 311 numbers taken by the GTM's move", "Tables of the other shape", "gtm_move",
+    Wrong("a table of 312 numbers taken by the GTM's move", "Tables of the other shape", "gtm_move",
           with_test(tables.WRONG_TABLE_LENGTH, either_length)),
     Wrong("a table of 65 numbers taken by the read of Cumulus tables", "Tables of the other shape", "read",
           with_test(tables.WRONG_TABLE_LENGTH, either_length)),

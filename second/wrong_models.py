@@ -14,10 +14,12 @@ import fixed_point
 import tables
 from door import POSITIVE_ZERO, SIGN_BIT
 from draws import I64_MIN, MASK, signed
-from makers import places_of_block
-from model import ALPHA, BETA, CUMULUS, ETA, READING_OUTSIDE, READ_LENGTH, TABLE_LENGTH, XI_GROUP, ZETA_GROUP
+from makers import cut_at, places_of_block
+from model import (
+    ALPHA, BETA, CUMULUS, ETA, FINE_CUT, PUBLISHED_FINE_CUT, READING_OUTSIDE, READ_LENGTH, TABLE_LENGTH, XI_GROUP, ZETA_GROUP,
+)
 from roundings import half_away, half_even
-from shapes import ALPHA_CUT, HIGH_GROUP, LOW_GROUP, PIECES
+from shapes import ALPHA_CUT, HIGH_GROUP, LOW_GROUP, PIECES, THOUSANDTHS
 
 # The right functions, for wrong ones that differ from them in one respect.
 right_is_finite = door.is_finite
@@ -72,8 +74,12 @@ def in_fixed_point(name, replacement):
 
 # ---------------------------------------------------------- the published table
 
-def published_with(shape, place, number):
-    return in_shape(shape, "published", shape.published[:place] + (number,) + shape.published[place + 1:])
+def published_with(shape, *changes):
+    """The published table with other numbers at some places."""
+    table = list(shape.published)
+    for place, number in changes:
+        table[place] = number
+    return in_shape(shape, "published", tuple(table))
 
 
 def low_and_high_exchanged(shape):
@@ -87,7 +93,7 @@ def low_and_high_exchanged(shape):
 def wrong_signs():
     """Each printed coefficient with the other sign, in the published table."""
     return tuple(Wrong("the other sign at place %d of the published table" % place, "Readings at the limits", "read",
-                       published_with(CUMULUS, place, -number))
+                       published_with(CUMULUS, (place, -number)))
                  for place, number in enumerate(CUMULUS.published) if number and place >= CUMULUS.first_block)
 
 
@@ -108,11 +114,16 @@ def wrong_signs_of_rows():
 
 # ---------------------------------------------------------------------- moves
 
-def cut_moved_the_other_way(shape, limits, variable, shift):
-    moved = right_moved_limits(shape, limits, variable, shift)
-    if variable == ALPHA:
-        moved[ALPHA_CUT] = limits[ALPHA_CUT] + shift
-    return moved
+def cut_moved_by(times):
+    """A move of alpha takes its lowest and highest along, and the cut, whole and fine, so many times the shift."""
+    def moved_limits(shape, limits, variable, shift):
+        moved = right_moved_limits(shape, limits, variable, shift)
+        if variable == ALPHA:
+            by_other = right_moved_limits(shape, limits, variable, times * shift)
+            for place in (ALPHA_CUT,) if shape.fine_cut is None else (ALPHA_CUT, shape.fine_cut):
+                moved[place] = by_other[place]
+        return moved
+    return moved_limits
 
 
 def limits_moved_the_other_way(shape, limits, variable, shift):
@@ -148,6 +159,17 @@ def weighed_at_old_reach(shape, table, variable, shift):
     return found
 
 
+def fine_cut_moved_with_each(shape, limits, variable, shift):
+    moved = right_moved_limits(shape, limits, variable, shift)
+    moved[FINE_CUT] = right_moved_limits(shape, limits, ALPHA, shift)[FINE_CUT]
+    return moved
+
+
+def fine_cut_looked_at(shape, table, variable, shift):
+    """No moved limit, the fine cut among them, may leave -2000..2000."""
+    return not all(map(tables.in_range, right_moved_limits(shape, tables.limits_of(shape, table), variable, shift)))
+
+
 def refused_move_writes_limits(shape, table, variable, shift, output):
     number = right_move(shape, table, variable, shift, output)
     if number == tables.MOVE_TOO_HEAVY:
@@ -170,13 +192,6 @@ def shift_cut(shape, table, variable, shift, output):
 
 
 # -------------------------------------------------------------------- weights
-
-def high_reach_from_cut(shape, limits, piece):
-    radii = right_reaches(shape, limits, piece)
-    if piece == HIGH_GROUP:
-        radii[ALPHA] = tables.reach_between(limits[ALPHA_CUT], limits[2])
-    return radii
-
 
 def smallest_is_its_own_magnitude(table):
     return [number if number == I64_MIN else abs(number) for number in table]
@@ -236,17 +251,30 @@ def blocks_weighed_together(shape, table):
 
 # --------------------------------------------------------------------- limits
 
-def lowest_below_cut(shape, limits):
-    return right_limits_are_good(shape, limits) and limits[0] < limits[1]
+def lowest_below_cut(limits):
+    return limits[0] < limits[ALPHA_CUT] < limits[2]
 
 
-def cut_at_highest(shape, limits):
-    return (right_limits_are_good(shape, limits)
-            or limits[1] == limits[2] and right_limits_are_good(shape, limits[:1] + [limits[0]] + limits[2:]))
+def cut_at_highest(limits):
+    return limits[0] <= limits[ALPHA_CUT] <= limits[2]
 
 
 def others_not_single(shape, limits):
-    return right_limits_are_good(shape, limits) and all(limits[lowest] < limits[highest] for lowest, highest in shape.limit_places[1:])
+    return all(limits[lowest] < limits[highest] for lowest, highest in shape.limit_places[1:])
+
+
+def fine_cut_in_range(_, limits):
+    """The fine cut held to -2000..2000 with the others."""
+    return all(map(tables.in_range, limits))
+
+
+def cut_off(fine):
+    """The whole cut of a fine one, towards zero."""
+    return -(-fine // THOUSANDTHS) if fine < 0 else fine // THOUSANDTHS
+
+
+def rounded_up(fine):
+    return -(-fine // THOUSANDTHS)
 
 
 def ends_excluded(shape, table, variable, reading):
@@ -316,11 +344,43 @@ def magnitude_sum_cut(bits):
     return -whole if bits & SIGN_BIT else whole
 
 
-def piece_before_rounding(table, reading_bits):
-    """Alpha is held against the cut as it was given."""
-    readings = [door.whole_reading(bits) for bits in reading_bits]
-    piece = tables.piece_at(table, door.exact_value(reading_bits[ALPHA]))
-    return [door.answer_bits(number) for number in right_sums(CUMULUS, table, piece, readings)]
+def low_where(holds):
+    """The piece of a float alpha chosen otherwise: low where something holds of the table and the pattern."""
+    return in_door("piece_as_given", lambda table, bits: LOW_GROUP if holds(table, bits) else HIGH_GROUP)
+
+
+def rounded_at_most_cut(table, bits):
+    return door.whole_reading(bits) <= table[ALPHA_CUT]
+
+
+def at_most_cut(table, bits):
+    return door.exact_value(bits) <= table[ALPHA_CUT]
+
+
+def below_fine_cut(table, bits):
+    return door.exact_value(bits) < Fraction(table[FINE_CUT], THOUSANDTHS)
+
+
+def at_most_quotient(table, bits):
+    """The fine cut is divided in binary64, which rounds the quotient."""
+    return door.exact_value(bits) <= door.exact_value(door.nearest_bits(Fraction(table[FINE_CUT], THOUSANDTHS)))
+
+
+def product_at_most(table, bits):
+    """Alpha is multiplied in binary64, which rounds the product."""
+    return door.exact_value(door.nearest_bits(door.exact_value(bits) * THOUSANDTHS)) <= table[FINE_CUT]
+
+
+def whole_thousandths_at_most(rounding):
+    """Alpha is first rounded to whole thousandths."""
+    return lambda table, bits: rounding(door.exact_value(bits) * THOUSANDTHS) <= table[FINE_CUT]
+
+
+def read_within_piece(table, reading_bits):
+    """The low piece is read at the cut at most, and the high one above the cut."""
+    readings, piece = [door.whole_reading(bits) for bits in reading_bits], door.piece_as_given(table, reading_bits[ALPHA])
+    inside = min(readings[ALPHA], table[ALPHA_CUT]) if piece == LOW_GROUP else max(readings[ALPHA], table[ALPHA_CUT] + 1)
+    return [door.answer_bits(number) for number in right_sums(CUMULUS, table, piece, [inside] + readings[1:])]
 
 
 def outside_before_rounding(table, variable, bits):
@@ -476,12 +536,11 @@ def changed_after_refusal(self, into, operation):
 
 MODELS = (
     # errors that look right
-    Wrong("the published cut at 314", "Readings at the limits", "read", published_with(CUMULUS, 1, 314)),
+    Wrong("the published cut at 314", "Readings at the limits", "read", published_with(CUMULUS, *cut_at(CUMULUS, 314))),
     Wrong("alpha below the cut asked for the low piece", "Readings at the limits", "read",
           in_tables("piece_at", lambda table, alpha: 0 if alpha < table[1] else 1)),
-    Wrong("the cut left behind by a move", "The published table moved", "read",
-          in_shape(CUMULUS, "limit_places", ((0, 2),) + CUMULUS.limit_places[1:])),
-    Wrong("the cut moved the other way", "The published table moved", "read", in_tables("moved_limits", cut_moved_the_other_way)),
+    Wrong("the cut left behind by a move", "The published table moved", "read", in_tables("moved_limits", cut_moved_by(0))),
+    Wrong("the cut moved the other way", "The published table moved", "read", in_tables("moved_limits", cut_moved_by(-1))),
     Wrong("what a move throws into the pure places dropped", "The published table moved", "read",
           in_tables("term_moved", pure_places_dropped)),
     Wrong("only the moved table weighed", "Borders of moved tables", "move", in_tables("move_is_too_heavy", only_moved_table_weighed)),
@@ -506,10 +565,28 @@ MODELS = (
           in_tables("move_reach", lambda reach, shift: reach + shift)),
     Wrong("the cap of a move one higher", "Moves at the cap", "move", in_tables("MOVE_WEIGHT_CAP", tables.WEIGHT_CAP + 1)),
     Wrong("the cap of a move one lower", "Moves at the cap", "move", in_tables("MOVE_WEIGHT_CAP", tables.WEIGHT_CAP - 1)),
+    # the fine cut of moved tables
+    Wrong("the fine cut left behind by a move", "Moved fine cuts", "show", in_tables("moved_fine_cut", lambda fine, shift: fine)),
+    Wrong("the fine cut moved by as many thousandths", "Moved fine cuts", "show",
+          in_tables("moved_fine_cut", lambda fine, shift: fine - shift)),
+    Wrong("the fine cut moved the other way", "Moved fine cuts", "show",
+          in_tables("moved_fine_cut", lambda fine, shift: fine + THOUSANDTHS * shift)),
+    Wrong("the fine cut made anew from the moved cut", "Moved fine cuts", "show",
+          in_tables("moved_fine_cut", lambda fine, shift: THOUSANDTHS * (fine // THOUSANDTHS - shift))),
+    Wrong("the fine cut moved with every variable", "Moved fine cuts", "show", in_tables("moved_limits", fine_cut_moved_with_each)),
+    Wrong("the fine cut left behind by a move that is then read", "Floats beside moved fine cuts", "floats",
+          in_tables("moved_fine_cut", lambda fine, shift: fine)),
+    Wrong("a moved fine cut held to the range of the limits", "Moved fine cuts", "move",
+          in_tables("moved_limit_outside", fine_cut_looked_at)),
     # weights
     Wrong("the cap one higher", "Weights at the cap", "read", in_tables("WEIGHT_CAP", tables.WEIGHT_CAP + 1)),
     Wrong("the cap one lower", "Weights at the cap", "read", in_tables("WEIGHT_CAP", tables.WEIGHT_CAP - 1)),
-    Wrong("the high piece's reach from the cut", "Edges of the reach", "read", in_tables("reaches", high_reach_from_cut)),
+    Wrong("the low piece's reach to the cut", "Edges of the reach", "read", in_shape(CUMULUS, "low_end", 0)),
+    Wrong("the high piece's reach from cut + 1", "Edges of the reach", "read", in_shape(CUMULUS, "high_start", 1)),
+    Wrong("a move weighed with the low piece's reach to the cut", "Worked fine cuts", "move", in_shape(CUMULUS, "low_end", 0)),
+    Wrong("a move weighed with the high piece's reach from cut + 1", "Moves at the cap", "move", in_shape(CUMULUS, "high_start", 1)),
+    Wrong("the reaches of the two pieces as the GTM's are", "Weights at the cap", "read",
+          in_shape(CUMULUS, "low_end", 0), in_shape(CUMULUS, "high_start", 1)),
     Wrong("the side groups forgotten in the low piece", "Weights at the cap", "read",
           in_tables("weights", sides_forgotten_in(LOW_GROUP))),
     Wrong("the side groups forgotten in the high piece", "Weights at the cap", "read",
@@ -526,9 +603,18 @@ MODELS = (
     # limits and readings
     Wrong("limits up to 2001", "Edges of the limits", "read", in_tables("LIMIT_CAP", 2001)),
     Wrong("limits up to 1999", "Edges of the limits", "read", in_tables("LIMIT_CAP", 1999)),
-    Wrong("the lowest has to be below the cut", "Edges of the limits", "read", in_tables("limits_are_good", lowest_below_cut)),
-    Wrong("the cut may be the highest", "Edges of the limits", "read", in_tables("limits_are_good", cut_at_highest)),
-    Wrong("a single reading is no range", "Edges of the limits", "read", in_tables("limits_are_good", others_not_single)),
+    Wrong("the lowest has to be below the cut", "Edges of the limits", "read", in_tables("alpha_in_order", lowest_below_cut)),
+    Wrong("the cut may be the highest", "Edges of the limits", "read", in_tables("alpha_in_order", cut_at_highest)),
+    Wrong("a single reading is no range", "Edges of the limits", "read", in_tables("others_in_order", others_not_single)),
+    Wrong("the fine cut held to the range of the limits", "Fine cuts that belong to a cut", "read",
+          in_tables("all_in_range", fine_cut_in_range)),
+    Wrong("any fine cut taken", "Fine cuts that belong to a cut", "read", in_tables("cuts_agree", lambda shape, limits: True)),
+    Wrong("the cut towards zero of the fine one", "Fine cuts that belong to a cut", "read", in_tables("whole_of", cut_off)),
+    Wrong("the cut next above the fine one", "Fine cuts that belong to a cut", "read", in_tables("whole_of", rounded_up)),
+    Wrong("the cut nearest to the fine one", "Fine cuts that belong to a cut", "read",
+          in_tables("whole_of", lambda fine: half_away(Fraction(fine, THOUSANDTHS)))),
+    Wrong("a fine cut cut to 32 bits", "Fine cuts that belong to a cut", "read",
+          in_tables("whole_of", lambda fine: low_half(fine) // THOUSANDTHS)),
     Wrong("the ends of the limits excluded", "Readings at the limits", "read", in_tables("is_outside", ends_excluded)),
     Wrong("a reading cut to 32 bits", "Readings at the ends of 64 bits", "read",
           in_tables("read", readings_cut)),
@@ -538,9 +624,9 @@ MODELS = (
     Wrong("the first row of a group not read", "Single numbers", "read", in_tables("products", lru_cache(first_row_left_out))),
     Wrong("the last row of a group not read", "Single numbers", "read", in_tables("products", lru_cache(last_row_left_out))),
     # lengths
-    Wrong("a longer table taken", "Wrong lengths of reads", "read", with_test(tables.WRONG_TABLE_LENGTH, lambda table: len(table) < 311)),
+    Wrong("a longer table taken", "Wrong lengths of reads", "read", with_test(tables.WRONG_TABLE_LENGTH, lambda table: len(table) < 312)),
     Wrong("a table without its last number taken", "Wrong lengths of reads", "read",
-          with_test(tables.WRONG_TABLE_LENGTH, lambda table: len(table) not in (310, 311))),
+          with_test(tables.WRONG_TABLE_LENGTH, lambda table: len(table) not in (311, 312))),
     Wrong("a longer room taken by a read", "Wrong lengths of reads", "read",
           in_tables("read", longer_taken(right_read, READ_LENGTH))),
     Wrong("a longer room taken by publishing", "Publishing", "publish", in_tables("publish", longer_taken(right_publish, TABLE_LENGTH))),
@@ -574,8 +660,18 @@ MODELS = (
     Wrong("half put on the magnitude as a float and cut off", "Special patterns", "floats", in_door("whole_reading", magnitude_sum_cut)),
     Wrong("halves of answers away from zero", "Halves of answers", "floats", in_door("half_even", half_away)),
     Wrong("readings cut off and not rounded", "Floats at the limits and their halves", "floats", reading_rounded(int)),
-    Wrong("the piece chosen before rounding", "Floats at the limits and their halves", "floats",
-          in_door("six_answers", piece_before_rounding)),
+    Wrong("the piece chosen after rounding", "Checked values 12 and 13", "floats", low_where(rounded_at_most_cut)),
+    Wrong("alpha as given held against the whole cut", "Worked fine cuts", "floats", low_where(at_most_cut)),
+    Wrong("alpha below the fine cut asked for the low piece", "Both sides of fine cuts", "floats", low_where(below_fine_cut)),
+    Wrong("the fine cut divided as a float", "Worked fine cuts", "floats", low_where(at_most_quotient)),
+    Wrong("alpha multiplied as a float", "Worked fine cuts", "floats", low_where(product_at_most)),
+    Wrong("alpha cut down to thousandths", "Worked fine cuts", "floats", low_where(whole_thousandths_at_most(floor))),
+    Wrong("alpha rounded to thousandths", "Worked fine cuts", "floats", low_where(whole_thousandths_at_most(half_away))),
+    Wrong("no piece read across the cut", "Worked fine cuts", "floats", in_door("six_answers", read_within_piece)),
+    Wrong("the published fine cut one lower", "Worked fine cuts", "floats",
+          published_with(CUMULUS, (FINE_CUT, PUBLISHED_FINE_CUT - 1))),
+    Wrong("the published fine cut one higher", "Worked fine cuts", "floats",
+          published_with(CUMULUS, (FINE_CUT, PUBLISHED_FINE_CUT + 1))),
     Wrong("outside asked before rounding", "Floats at the limits and their halves", "floats",
           in_door("float_is_outside", outside_before_rounding)),
     Wrong("the rounded reading handed back", "Floats at the limits and their halves", "floats",
