@@ -14,12 +14,12 @@ static int64_t gtm[CLOCHECLOAK_GTM_TABLE], gtm_near[CLOCHECLOAK_GTM_TABLE];
 
 static inline uint64_t call(int operation, size_t variable, int ours) {
     switch (operation) {
-        case 'r': return (ours ? clochecloak_read : peer_read)(table, 311, 100, 20, -30, 40, -50, six, 6);
-        case 'n': return (ours ? clochecloak_read : peer_read)(near, 311, 100, 20, -30, 40, -50, six, 6);
-        case 'f': return (ours ? clochecloak_read_floats : peer_read_floats)(table, 311, 100.4, 20.5, -30, 40, -50).number;
+        case 'r': return (ours ? clochecloak_read : peer_read)(table, 312, 100, 20, -30, 40, -50, six, 6);
+        case 'n': return (ours ? clochecloak_read : peer_read)(near, 312, 100, 20, -30, 40, -50, six, 6);
+        case 'f': return (ours ? clochecloak_read_floats : peer_read_floats)(table, 312, 100.4, 20.5, -30, 40, -50).number;
         case 'm':
             return (ours ? clochecloak_read_microradians : peer_read_microradians)(100400, 20500, -30000, 40000, -50000, six, 6);
-        default: return (ours ? clochecloak_move : peer_move)(table, 311, variable, 35, moved, 311);
+        default: return (ours ? clochecloak_move : peer_move)(table, 312, variable, 35, moved, 312);
     }
 }
 
@@ -38,7 +38,7 @@ int main(int argc, char **argv) {
     struct timespec from, to;
     uint64_t number = clochecloak_publish(table, CLOCHECLOAK_TABLE) + clochecloak_gtm_publish(gtm, CLOCHECLOAK_GTM_TABLE);
     memcpy(near, table, sizeof near);
-    near[11] = 4000000000000000000, near[61] = 5000000000000000000;
+    near[12] = 4000000000000000000, near[62] = 5000000000000000000;
     memcpy(gtm_near, gtm, sizeof gtm);
     gtm_near[5] = 4000000000000000000, gtm_near[25] = 5000000000000000000;
     peer_prepare(table);
@@ -53,7 +53,7 @@ int main(int argc, char **argv) {
         return 0;
     }
     uint64_t sum = 1;
-    for (int k = 0; k < 311; k++) sum = sum * 1099511628211u + (uint64_t)moved[k];
+    for (int k = 0; k < 312; k++) sum = sum * 1099511628211u + (uint64_t)moved[k];
     for (int k = 0; k < 6; k++) sum = sum * 1099511628211u + (uint64_t)six[k];
     printf("%llu %llu\n", (unsigned long long)number, (unsigned long long)sum);
     return 0;

@@ -18,11 +18,15 @@ static const uint64_t CAP = 9000000000000000000;
 INLINE int place(int n, int q) { return n * (n + 1) / 2 + q; }
 INLINE uint64_t magnitude(int64_t x) { return x < 0 ? -(uint64_t)x : (uint64_t)x; }
 
-/* Gives whether the limits are in order and in range. They are in range exactly if their reach is. */
+/* The reach of limits. They are in range exactly if it is. */
+INLINE uint64_t span(int64_t low, int64_t high) {
+    uint64_t a = magnitude(low), b = magnitude(high), r = a > b ? a : b;
+    return r ? r : 1;
+}
+
+/* Gives whether the limits are in order and in range. */
 INLINE int reach(int64_t low, int64_t high, uint64_t *r) {
-    uint64_t a = magnitude(low), b = magnitude(high);
-    *r = a > b ? a : b;
-    if (*r == 0) *r = 1;
+    *r = span(low, high);
     return low <= high && *r <= FARTHEST;
 }
 

@@ -2,9 +2,11 @@
  * and are worked out for every table, whatever its numbers. Readings within the limits of a sound table, and moves within the
  * weight rule, keep every sum and product on the way within 64 bits, so that values and moved numbers need no checks. */
 #include "groups.h"
+#include <float.h>
 #include <math.h>
 
-enum { LIMITS = 11, BLOCK = 50, BLOCKS = 6, TABLE = 311, COEFFICIENTS = 6, VARIABLES = 5 };
+enum { LIMITS = 12, BLOCK = 50, BLOCKS = 6, TABLE = 312, COEFFICIENTS = 6, VARIABLES = 5 };
+enum { CUT = 1, FINE_CUT = 3, THOUSANDTHS = 1000 }; /* places of the cut, whole and in thousandths of a milliradian */
 enum { ALPHA, BETA, XI, ETA, ZETA };
 enum { LOW = 0, HIGH = 10, BETA_XI = 20, BETA_ZETA = 35 }; /* where the groups of a block start */
 enum { PITCH = 3, SIDE = 4 };                              /* their degrees */
@@ -12,16 +14,27 @@ enum { PITCH = 3, SIDE = 4 };                              /* their degrees */
 static const int START[4] = {LOW, HIGH, BETA_XI, BETA_ZETA}, DEGREE[4] = {PITCH, PITCH, SIDE, SIDE};
 static const int FIRST[4] = {ALPHA, ALPHA, BETA, BETA}, SECOND[4] = {ETA, ETA, XI, ZETA};
 
-INLINE int lowest(int v) { return v ? 2 * v + 1 : 0; }
-INLINE int highest(int v) { return 2 * v + 2; }
+INLINE int lowest(int v) { return v ? 2 * v + 2 : 0; }
+INLINE int highest(int v) { return v ? 2 * v + 3 : 2; }
 
-/* The reaches of the five variables, alpha's for the low piece; and alpha's for the high piece. */
+/* The reaches of the five variables, alpha's for the low piece; and alpha's for the high piece. The pieces overlap: a float that
+ * is rounded past the cut is read in the piece that it had before. */
 typedef struct {
     uint64_t of[VARIABLES], high;
 } reaches;
 
+INLINE int in_range(const reaches *r) { return r->of[ALPHA] <= FARTHEST && r->high <= FARTHEST; }
+
+INLINE void span_alpha(int64_t low, int64_t cut, int64_t high, reaches *r) {
+    r->of[ALPHA] = span(low, cut + 1);
+    r->high = span(cut, high);
+}
+
+/* Of a cut in range only its own thousandths, 0 to 999 above it, are less than 1000 off, modulo 2^64 too. */
 INLINE int good(const int64_t *t, reaches *r) {
-    if (!reach(t[0], t[1], &r->of[ALPHA]) || !reach(t[1] + 1, t[2], &r->high)) return 0;
+    if (t[0] > t[CUT] || t[CUT] >= t[2]) return 0;
+    span_alpha(t[0], t[CUT], t[2], r);
+    if (!in_range(r) || (uint64_t)t[FINE_CUT] - (uint64_t)t[CUT] * THOUSANDTHS >= THOUSANDTHS) return 0;
     UNROLL for (int v = BETA; v <= ZETA; v++)
         if (!reach(t[lowest(v)], t[highest(v)], &r->of[v])) return 0;
     return 1;
@@ -61,8 +74,8 @@ INLINE int64_t beta_alone(const int64_t *g, int64_t beta) {
     return sum;
 }
 
-INLINE void values(const int64_t *t, state x, int64_t *out) {
-    const int64_t *g = t + LIMITS, *pitch = g + (x.of[ALPHA] > t[1] ? HIGH : LOW);
+INLINE void values(const int64_t *t, state x, int high, int64_t *out) {
+    const int64_t *g = t + LIMITS, *pitch = g + (high ? HIGH : LOW);
     for (int b = 0; b < BLOCKS; b++, g += BLOCK, pitch += BLOCK) {
         int64_t sum = value(pitch, PITCH, 0, x.of[ALPHA], x.of[ETA]);
         sum += beta_alone(g, x.of[BETA]);
@@ -78,21 +91,21 @@ INLINE uint64_t outside(const int64_t *t, state x) {
     return 0;
 }
 
-INLINE uint64_t read_sound(const int64_t *t, state x, int64_t *out) {
+INLINE uint64_t read_sound(const int64_t *t, state x, int high, int64_t *out) {
     uint64_t no = outside(t, x);
-    if (!no) values(t, x, out);
+    if (!no) values(t, x, high, out);
     return no;
 }
 
 uint64_t peer_sound_read(const int64_t *t, const int64_t *x, int64_t *out) {
-    return read_sound(t, (state){{x[0], x[1], x[2], x[3], x[4]}}, out);
+    return read_sound(t, (state){{x[0], x[1], x[2], x[3], x[4]}}, x[0] > t[CUT], out);
 }
 
 uint64_t peer_read(const int64_t *t, size_t n, int64_t a, int64_t be, int64_t xi, int64_t e, int64_t z, int64_t *out, size_t m) {
     if (n != TABLE) return 1;
     if (m != COEFFICIENTS) return 2;
     uint64_t no = unsound(t);
-    return no ? no : read_sound(t, (state){{a, be, xi, e, z}}, out);
+    return no ? no : read_sound(t, (state){{a, be, xi, e, z}}, a > t[CUT], out);
 }
 
 /* The nearest whole number, a half away from zero, of a float within 2^51 of zero; of any other, a NaN and the infinities
@@ -102,13 +115,22 @@ INLINE int64_t nearest(double f) {
     return fabs(sum) < 0x1p51 ? (int64_t)sum : INT64_MAX;
 }
 
+/* Whether a float is past so many thousandths, as exact numbers. Rounding keeps the order, so the rounded product decides unless
+ * it is the fine cut itself; then one of 64 bits does, which is exact: 53 bits times the 7 of 125 = 1000 / 8. */
+_Static_assert(LDBL_MANT_DIG >= 60, "the product of a float and 1000 has up to 60 bits");
+INLINE int past_thousandths(double f, int64_t fine) {
+    double product = f * THOUSANDTHS;
+    return product != (double)fine ? product > (double)fine : (long double)f * THOUSANDTHS > (long double)fine;
+}
+
 clochecloak_answer peer_read_floats(const int64_t *t, size_t n, double a, double be, double xi, double e, double z) {
     double f[VARIABLES] = {a, be, xi, e, z};
     int64_t six[COEFFICIENTS];
     if (n != TABLE) return (clochecloak_answer){.number = 1};
     uint64_t no = unsound(t);
     if (no) return (clochecloak_answer){.number = no};
-    no = read_sound(t, (state){{nearest(a), nearest(be), nearest(xi), nearest(e), nearest(z)}}, six);
+    state x = {{nearest(a), nearest(be), nearest(xi), nearest(e), nearest(z)}};
+    no = read_sound(t, x, past_thousandths(a, t[FINE_CUT]), six);
     if (no) {
         for (int v = 0; v < VARIABLES; v++)
             if (!isfinite(f[v])) return (clochecloak_answer){.number = 21 + v};
@@ -163,16 +185,18 @@ uint64_t peer_read_microradians(int64_t a, int64_t be, int64_t xi, int64_t e, in
 /* The reaches of the weight rule. Gives whether the moved limits stay in range. */
 INLINE int lengthen(const int64_t *t, int v, int64_t s, reaches *r) {
     if (magnitude(s) > 2 * FARTHEST) return 0;
-    if (!reach(t[lowest(v)] - s, t[v ? highest(v) : 1] - s, &r->of[v])) return 0;
+    if (v == ALPHA) {
+        span_alpha(t[0] - s, t[CUT] - s, t[2] - s, r);
+        if (!in_range(r)) return 0;
+        r->high += magnitude(s);
+    } else if (!reach(t[lowest(v)] - s, t[highest(v)] - s, &r->of[v])) return 0;
     r->of[v] += magnitude(s);
-    if (v != ALPHA) return 1;
-    if (!reach(t[1] + 1 - s, t[2] - s, &r->high)) return 0;
-    r->high += magnitude(s);
     return 1;
 }
 
 INLINE void move_table(const int64_t *restrict t, int64_t *restrict out, int v, int64_t s) {
     UNROLL for (int k = 0; k < LIMITS; k++) out[k] = k < lowest(v) || k > highest(v) ? t[k] : t[k] - s;
+    if (v == ALPHA) out[FINE_CUT] = t[FINE_CUT] - s * THOUSANDTHS;
     for (int b = LIMITS; b < TABLE; b += BLOCK)
         UNROLL for (int k = 0; k < 4; k++)
             if (v != FIRST[k] && v != SECOND[k]) copy_group(t + b + START[k], out + b + START[k], DEGREE[k]);

@@ -7,22 +7,23 @@
 #include <stdlib.h>
 #include <string.h>
 
-enum { CASES = 100000, BLOCK_ROOM = 50, TABLE_ROOM = 311, NUMBERS = 26 };
+enum { CASES = 100000, BLOCK_ROOM = 50, TABLE_ROOM = 312, NUMBERS = 26, FINE_CUT = 3 };
 enum { READ, FLOATS, MICRORADIANS, MOVE, OPERATIONS };
 static const char *const NAMES[OPERATIONS] = {"read", "read with floats", "read in microradians", "move"};
 
-/* A model's tables: how many there are of each part; of the groups of a block where they start, their degrees and variables. */
+/* A model's tables: how many there are of each part, and whether alpha's limits have a fine cut with them, so that the pieces
+ * overlap; of the groups of a block where they start, their degrees and variables. */
 typedef struct {
     const char *name;
-    int variables, limits, blocks, block, table, groups, start[4], degree[4], first[4], second[4];
+    int variables, fine, limits, blocks, block, table, groups, start[4], degree[4], first[4], second[4];
     uint64_t (*publish)(int64_t *, size_t);
     uint64_t (*move)(const int64_t *, size_t, size_t, int64_t, int64_t *, size_t);
     uint64_t (*peer_move)(const int64_t *, size_t, size_t, int64_t, int64_t *, size_t);
 } model;
 
-static const model CUMULUS = {"Cumulus One", 5, 11, 6, 50, 311, 4, {0, 10, 20, 35}, {3, 3, 4, 4}, {0, 0, 1, 1}, {3, 3, 2, 4},
+static const model CUMULUS = {"Cumulus One", 5, 1, 12, 6, 50, 312, 4, {0, 10, 20, 35}, {3, 3, 4, 4}, {0, 0, 1, 1}, {3, 3, 2, 4},
                               clochecloak_publish, clochecloak_move, peer_move};
-static const model GTM = {"GTM", 2, 5, 3, 20, 65, 2, {0, 10}, {3, 3}, {0, 0}, {1, 1},
+static const model GTM = {"GTM", 2, 0, 5, 3, 20, 65, 2, {0, 10}, {3, 3}, {0, 0}, {1, 1},
                           clochecloak_gtm_publish, clochecloak_gtm_move, peer_gtm_move};
 static const model *of; /* the one whose cases are drawn */
 
@@ -31,7 +32,7 @@ static const int64_t CAP = 9000000000000000000;
 
 static uint64_t seed = 1;
 static int64_t published[TABLE_ROOM];
-static long met[OPERATIONS][NUMBERS], edges[2][3], drawn;
+static long met[OPERATIONS][NUMBERS], edges[2][3], across[2], drawn;
 
 /* One case. The readings are those of the reads in milliradians; those in microradians have limits of their own. */
 static struct {
@@ -59,8 +60,14 @@ static int64_t scaled(int least, int most) {
 }
 static int64_t extreme(void) { return (int64_t[]){INT64_MIN, INT64_MIN + 1, INT64_MAX, INT64_MAX - 1}[below(4)]; }
 
-static int lowest(int v) { return v ? 2 * v + 1 : 0; }
-static int highest(int v) { return 2 * v + 2; }
+static int lowest(int v) { return v ? 2 * v + 1 + of->fine : 0; }
+static int highest(int v) { return v ? 2 * v + 2 + of->fine : 2; }
+
+/* A fine cut of a cut, often at an end or about the half from which on alpha is rounded past the cut. */
+static int64_t fine_of(int64_t cut) {
+    static const int ABOVE[] = {0, 1, 499, 500, 501, 999};
+    return 1000 * cut + (one_in(2) ? between(0, 999) : ABOVE[below(6)]);
+}
 
 static void good_limits(int64_t *t) {
     static const int SIZES[] = {0, 1, 2, 10, 100, 500, 1000, 2000};
@@ -73,16 +80,21 @@ static void good_limits(int64_t *t) {
     }
     if (t[0] == t[2]) t[2] < 2000 ? t[2]++ : t[0]--;
     t[1] = one_in(4) ? t[0] : one_in(3) ? t[2] - 1 : between(t[0], t[2] - 1);
+    if (of->fine) t[FINE_CUT] = fine_of(t[1]);
 }
 
-/* One fault: a limit out of range, by one or by far, or two of them in the wrong order. */
+/* One fault: a limit out of range, by one or by far, two of them in the wrong order, or a fine cut of another cut. */
 static void bad_limits(int64_t *t) {
     int v = between(0, of->variables - 1), k = between(0, of->limits - 1);
-    switch (below(4)) {
+    switch (below(4 + of->fine)) {
         case 0: t[k] = either(2001); break;
         case 1: t[k] = one_in(2) ? extreme() : either(between(2001, 100000)); break;
         case 2: t[lowest(v)] = t[highest(v)] + between(v ? 1 : 0, 3); break;
-        default: t[1] = one_in(2) ? t[2] + between(0, 2) : t[0] - between(1, 3);
+        case 3:
+            t[1] = one_in(2) ? t[2] + between(0, 2) : t[0] - between(1, 3);
+            if (of->fine) t[FINE_CUT] = fine_of(t[1]);
+            break;
+        default: t[FINE_CUT] = one_in(2) ? 1000 * t[1] + (one_in(2) ? -1 : 1000) : one_in(2) ? -t[FINE_CUT] : extreme();
     }
 }
 
@@ -121,10 +133,10 @@ static u128 magnitude(int64_t x) { return x < 0 ? -(u128)x : (u128)x; }
 static int factors(const int64_t *t, int piece, int moves, u128 *f) {
     int64_t r[5];
     for (int k = 0; k < of->limits; k++)
-        if (t[k] < -2000 || t[k] > 2000) return 0;
+        if ((t[k] < -2000 || t[k] > 2000) && !(of->fine && k == FINE_CUT)) return 0;
     if (moves && (now.variable >= (size_t)of->variables || now.shift < -4000 || now.shift > 4000)) return 0;
     for (int v = 0; v < of->variables; v++) {
-        int64_t low = v || !piece ? t[lowest(v)] : t[1] + 1, high = v || piece ? t[highest(v)] : t[1];
+        int64_t low = v || !piece ? t[lowest(v)] : t[1] + !of->fine, high = v || piece ? t[highest(v)] : t[1] + of->fine;
         int here = moves && now.variable == (size_t)v;
         r[v] = here ? reach(moved_limit(low), moved_limit(high)) + labs(now.shift) : reach(low, high);
     }
@@ -221,9 +233,16 @@ static double draw_float(int64_t near, int64_t limit) {
     return one_in(3) ? (double)near : (double)near + PARTS[below(8)];
 }
 
+/* An alpha at the fine cut or at a half about it, or a float next to one. */
+static double draw_alpha(const int64_t *t) {
+    int64_t cut = t[1] < -2000 || t[1] > 2000 ? 0 : t[1];
+    double at = one_in(3) ? (double)cut + 0.5 : (double)t[FINE_CUT] / 1000;
+    return one_in(2) ? at : nextafter(at, one_in(2) ? INFINITY : -INFINITY);
+}
+
 /* Of the wrong counts some are right ones of another operation, or of the other model. */
 static size_t draw_count(size_t right) {
-    static const size_t OTHERS[2][9] = {{0, 1, 5, 6, 7, 310, 311, 312, SIZE_MAX}, {0, 2, 3, 4, 64, 65, 66, 311, SIZE_MAX}};
+    static const size_t OTHERS[2][9] = {{0, 1, 5, 6, 7, 311, 312, 313, SIZE_MAX}, {0, 2, 3, 4, 64, 65, 66, 312, SIZE_MAX}};
     return one_in(50) ? OTHERS[of == &GTM][below(9)] : right;
 }
 
@@ -238,6 +257,7 @@ static void draw_case(void) {
         now.microradians[v] = draw_reading(LOW[v], HIGH[v]);
     }
     if (one_in(10)) now.readings[0] = now.table[1]; /* the last of the low piece */
+    if (of->fine && one_in(4)) now.floats[0] = draw_alpha(now.table);
     if (one_in(10)) now.microradians[0] = between(313265, 313275);
     now.table_count = draw_count(of->table), now.answers_count = draw_count(of->blocks);
     now.moved_count = draw_count(of->table);
@@ -254,6 +274,12 @@ static void hold(int operation, uint64_t ours, uint64_t peers, const void *a, co
            NAMES[operation], (unsigned long long)ours, (unsigned long long)peers,
            memcmp(a, b, bytes) ? "not the same" : "the same");
     exit(1);
+}
+
+/* Counts an alpha that is read in another piece than its rounding would be. A product of 64 bits with 1000 is exact. */
+static void count_across(double alpha, int64_t cut) {
+    int past_cut = round(alpha) > cut, past_fine = (long double)alpha * 1000 > now.table[FINE_CUT];
+    if (past_cut != past_fine) across[past_fine]++;
 }
 
 /* The spaces are a number longer than what is lent, and start with the same drawn bytes. */
@@ -283,6 +309,7 @@ static void compare(void) {
     clochecloak_answer p = clochecloak_read_floats(t, n, f[0], f[1], f[2], f[3], f[4]);
     clochecloak_answer q = peer_read_floats(t, n, f[0], f[1], f[2], f[3], f[4]);
     hold(FLOATS, p.number, q.number, &p, &q, sizeof p);
+    if (p.number == CLOCHECLOAK_DONE) count_across(f[0], t[1]);
 }
 
 /* How far the heaviest weight is past the cap, where limits are in range; -2 and 2 stand for all that is farther. */
@@ -309,7 +336,7 @@ static void count_edges(void) {
 
 static void hold_model(const model *which) {
     of = which;
-    memset(met, 0, sizeof met), memset(edges, 0, sizeof edges);
+    memset(met, 0, sizeof met), memset(edges, 0, sizeof edges), memset(across, 0, sizeof across);
     of->publish(published, of->table);
     if (of == &CUMULUS) peer_prepare(published);
     for (drawn = 0; drawn < CASES; drawn++) {
@@ -325,6 +352,7 @@ static void hold_model(const model *which) {
             if (met[o][k]) printf("%s%s %d %ld", some ? "" : NAMES[o], some ? "," : ":", k, met[o][k]), some = 1;
         if (some) printf("\n");
     }
+    if (of->fine) printf("floats read in the low piece past the cut: %ld, in the high piece at the cut: %ld\n", across[0], across[1]);
     for (int moves = 0; moves < 2; moves++)
         printf("heaviest weight of a %s one below the cap, at it, one past it: %ld, %ld, %ld\n", moves ? "move" : "table",
                edges[moves][0], edges[moves][1], edges[moves][2]);

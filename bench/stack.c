@@ -68,9 +68,9 @@ int main(int argc, char **argv) {
         clochecloak_publish(tables[k], CLOCHECLOAK_TABLE);
         clochecloak_gtm_publish(gtm_tables[k], CLOCHECLOAK_GTM_TABLE);
     }
-    tables[1][11] = 4000000000000000000, tables[1][61] = 5000000000000000000;
+    tables[1][12] = 4000000000000000000, tables[1][62] = 5000000000000000000;
     gtm_tables[1][5] = 4000000000000000000, gtm_tables[1][25] = 5000000000000000000;
-    tables[2][261] = gtm_tables[2][45] = INT64_MAX; /* in the last block, so that all others are weighed before */
+    tables[2][262] = gtm_tables[2][45] = INT64_MAX; /* in the last block, so that all others are weighed before */
     ptrdiff_t read = depth(read_once), gtm_read = depth(gtm_read_once);
     printf("Stack of a read: %td bytes; with floats: %td bytes; in microradians: %td bytes; of a GTM table: %td bytes.\n", read,
            depth(read_floats_once), depth(read_microradians_once), gtm_read);
