@@ -5,6 +5,10 @@
  * A table of the GTM's longitudinal model is CLOCHECLOAK_GTM_TABLE numbers; its variables are 0 alpha and 1 eta (elevator), its
  * coefficients lift, drag and pitching moment, in this order. A table of the other model is refused by its length.
  *
+ * A table starts with its limits: alpha's lowest, cut and highest, then lowest and highest of each other variable. Alpha up to
+ * the cut is read in the low piece, alpha above it in the high piece. Behind alpha's highest a table of the Cumulus One also has
+ * the fine cut, in whole thousandths of a milliradian: 313269 when published, of which the cut, 313, are the whole milliradians.
+ *
  * Readings and shifts are whole milliradians, coefficients whole units of 10^-17. One read has units of its own: whole
  * microradians, and coefficients in units of 10^-9.
  *
@@ -23,14 +27,14 @@
 extern "C" {
 #endif
 
-enum { CLOCHECLOAK_TABLE = 311, CLOCHECLOAK_COEFFICIENTS = 6 };
+enum { CLOCHECLOAK_TABLE = 312, CLOCHECLOAK_COEFFICIENTS = 6 };
 enum { CLOCHECLOAK_GTM_TABLE = 65, CLOCHECLOAK_GTM_COEFFICIENTS = 3 };
 
 enum {
     CLOCHECLOAK_DONE = 0,
-    CLOCHECLOAK_WRONG_TABLE = 1,    /* the table does not have 311 numbers (GTM: 65) */
-    CLOCHECLOAK_WRONG_OUTPUT = 2,   /* the output does not have 6 numbers (reads) or 311 (publish, move); GTM: 3, 65 */
-    CLOCHECLOAK_BAD_LIMITS = 3,     /* the table's limits are not good */
+    CLOCHECLOAK_WRONG_TABLE = 1,    /* the table does not have 312 numbers (GTM: 65) */
+    CLOCHECLOAK_WRONG_OUTPUT = 2,   /* the output does not have 6 numbers (reads) or 312 (publish, move); GTM: 3, 65 */
+    CLOCHECLOAK_BAD_LIMITS = 3,     /* the table's limits are not good, or its cut is not its fine cut rounded down */
     CLOCHECLOAK_TOO_HEAVY = 4,      /* a weight passes the cap */
     CLOCHECLOAK_NO_VARIABLE = 5,    /* the variable is above 4 (GTM: above 1) */
     CLOCHECLOAK_LIMIT_PAST = 6,     /* a moved limit would leave -2000..2000 */
@@ -59,15 +63,16 @@ uint64_t clochecloak_read(const int64_t *table, size_t table_count, int64_t alph
 uint64_t clochecloak_read_microradians(int64_t alpha, int64_t beta, int64_t xi, int64_t eta, int64_t zeta, int64_t *out,
                                        size_t out_count);
 
-/* The six coefficients of a Cumulus One table at a state of floats in milliradians, each first rounded to the nearest whole
- * number, a half away from zero: 0.5 is read as 1, -0.5 as -1. So after a move that carries a half across zero, a reading less
- * the shift is not answered as the reading was. The answers are rounded half to even. Refusals 1, 3, 4, 21 to 25, 11 to 15, in
- * this order. */
+/* The six coefficients of a Cumulus One table at a state of floats in milliradians. The piece is that of alpha as it is given:
+ * low where alpha, as an exact number, is at most the fine cut. That piece is then read at the readings rounded to the nearest
+ * whole number, a half away from zero: 0.5 is read as 1, -0.5 as -1. So 313.4 is read in the high piece at 313, where
+ * clochecloak_read reads 313 in the low piece; and after a move that carries a half across zero, a reading less the shift is not
+ * answered as the reading was. The answers are rounded half to even. Refusals 1, 3, 4, 21 to 25, 11 to 15, in this order. */
 clochecloak_answer clochecloak_read_floats(const int64_t *table, size_t table_count, double alpha, double beta, double xi,
                                            double eta, double zeta);
 
-/* Writes the Cumulus One table that answers at a reading less `shift` as this one does at the reading.
- * Refusals 1, 2, 5, 3, 4, 6, 7, in this order. */
+/* Writes the Cumulus One table that answers at a reading less `shift` as this one does at the reading. The limits of the variable
+ * move along, and with alpha's the fine cut. Refusals 1, 2, 5, 3, 4, 6, 7, in this order. */
 uint64_t clochecloak_move(const int64_t *table, size_t table_count, size_t variable, int64_t shift, int64_t *out,
                           size_t out_count);
 
