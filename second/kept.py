@@ -7,7 +7,7 @@ from desk import split_lines
 
 FOLDER = pathlib.Path(__file__).resolve().parent.parent / "crates" / "desk"
 SCRIPT, ANSWERS = FOLDER / "stdin", FOLDER / "stdout"
-FEWEST_OPERATIONS, MOST_OPERATIONS, MOST_BYTES = 19000, 24000, 2700000
+FEWEST_OPERATIONS, MOST_OPERATIONS, MOST_BYTES = 19000, 24000, 2600000
 
 
 def kept_bytes(path):
