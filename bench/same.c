@@ -233,11 +233,20 @@ static double draw_float(int64_t near, int64_t limit) {
     return one_in(3) ? (double)near : (double)near + PARTS[below(8)];
 }
 
+/* A float next to a finite one: its last bit is turned. */
+static double beside(double at) {
+    uint64_t bits;
+    memcpy(&bits, &at, sizeof bits);
+    bits ^= 1;
+    memcpy(&at, &bits, sizeof at);
+    return at;
+}
+
 /* An alpha at the fine cut or at a half about it, or a float next to one. */
 static double draw_alpha(const int64_t *t) {
     int64_t cut = t[1] < -2000 || t[1] > 2000 ? 0 : t[1];
     double at = one_in(3) ? (double)cut + 0.5 : (double)t[FINE_CUT] / 1000;
-    return one_in(2) ? at : nextafter(at, one_in(2) ? INFINITY : -INFINITY);
+    return one_in(2) ? at : beside(at);
 }
 
 /* Of the wrong counts some are right ones of another operation, or of the other model. */
@@ -278,7 +287,8 @@ static void hold(int operation, uint64_t ours, uint64_t peers, const void *a, co
 
 /* Counts an alpha that is read in another piece than its rounding would be. A product of 64 bits with 1000 is exact. */
 static void count_across(double alpha, int64_t cut) {
-    int past_cut = round(alpha) > cut, past_fine = (long double)alpha * 1000 > now.table[FINE_CUT];
+    double half = (double)cut + 0.5;
+    int past_cut = cut < 0 ? alpha > half : alpha >= half, past_fine = (long double)alpha * 1000 > now.table[FINE_CUT];
     if (past_cut != past_fine) across[past_fine]++;
 }
 
