@@ -1,7 +1,7 @@
 -- Facts that would fail if a definition said something else: the places and the groups of a Cumulus One table, and the limits, reaches, weights,
 -- refusals, readings and moves of small tables that are worked by hand.
 use mathlib.Core.Path.{_≡_, refl}
-use mathlib.Core.Bool.{Bool, true, false}
+use mathlib.Core.Bool.{true, false}
 use mathlib.Core.List.{List, [], _∷_, _++_, map}
 use Prim.Native.Nat.{ℕ, suc, _-_, _*_, _<_}
 use native.Mathlib.Omega.{arith}

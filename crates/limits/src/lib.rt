@@ -8,15 +8,15 @@ ghost use mathlib.Core.Path.{_≡_};
 ghost use mathlib.Core.Bool.{true, not, cond, _&&_};
 ghost use Prim.Native.Nat.{_-_, suc, _≤_, _<_, max};
 ghost use lib.Dec.{ltb};
-ghost use lib.IntN.{pos, natAbs};
+ghost use lib.IntN.{pos, natAbs, _+ℤ_};
 ghost use lib.ListN.{length, take, getD};
 ghost use lib.Signed.{leZ, ltZ};
 ghost use Rattle.polynomials.specs.Sum.{listed};
-ghost use Rattle.layout.specs.Shape.{shape, limitsLength};
+ghost use Rattle.layout.specs.Shape.{shape, limitsLength, lowestPlace};
 ghost use Rattle.layout.specs.Numbers.{variablesRoom, limitsRoom};
 ghost use Rattle.layout.specs.Limits.{every, lowest, highest, cut, fineCut, isFineCut, longestShift, inRange, allInRange, inOrder, cutsAgree, good};
 ghost use Rattle.layout.specs.Blocks.{piece as pieceOf};
-ghost use Rattle.layout.specs.Sound.{span, lowEnd, highStart, reach};
+ghost use Rattle.layout.specs.Sound.{span, reach};
 ghost use Rattle.layout.specs.Reaches.{listedReaches};
 ghost use Rattle.layout.specs.Refusals.{outside, first, _when_};
 ghost use Rattle.layout.specs.Reading.{readings, inside};
@@ -94,14 +94,22 @@ impl Limits {
         numbers[place]
     }
 
+    // Where the limits of a variable stand that is not the first: its lowest, then its highest.
+    fn start(self, variable: usize) -> usize
+        requires { ⌜ (0 < variable) × (variable < variablesRoom) ⌝ }
+        ensures { λ r. ⌜ r ≡ lowestPlace (shape (self .model)) variable ⌝ }
+    {
+        let model = self.model;
+        2 * variable + 1 + shapes::fine_cuts(model)
+    }
+
     // The lowest reading of a variable.
     pub fn lowest(self, variable: usize) -> i64
         requires { ⌜ variable < variablesRoom ⌝ }
         ensures { λ r. ⌜ r ≡ lowest (shape (self .model)) (self .numbers) variable ⌝ }
     {
         if variable > 0 {
-            let model = self.model;
-            return self.at(2 * variable + 1 + shapes::fine_cuts(model));
+            return self.at(self.start(variable));
         }
         self.at(0)
     }
@@ -112,8 +120,7 @@ impl Limits {
         ensures { λ r. ⌜ r ≡ highest (shape (self .model)) (self .numbers) variable ⌝ }
     {
         if variable > 0 {
-            let model = self.model;
-            return self.at(2 * variable + 2 + shapes::fine_cuts(model));
+            return self.at(self.start(variable) + 1);
         }
         self.at(2)
     }
@@ -262,42 +269,31 @@ impl Limits {
         }
     }
 
-    // Where the low piece of variable 0 ends.
-    fn low_end(self) -> i64
+    // The cut of variable 0, or the number after it.
+    fn cut_or_next(self, next: bool) -> i64
         requires { ⌜ allInRange (shape (self .model)) (self .numbers) ≡ true ⌝ }
-        ensures { λ r. ⌜ r ≡ lowEnd (shape (self .model)) (self .numbers) ⌝ }
+        ensures { λ r. ⌜ r ≡ cond next (cut (shape (self .model)) (self .numbers) +ℤ pos 1) (cut (shape (self .model)) (self .numbers)) ⌝ }
     {
-        let model = self.model;
         let cut = self.at(CUT);
-        if shapes::has_fine_cut(model) {
+        if next {
             return cut + 1;
         }
         cut
     }
 
-    // Where its high piece starts.
-    fn high_start(self) -> i64
-        requires { ⌜ allInRange (shape (self .model)) (self .numbers) ≡ true ⌝ }
-        ensures { λ r. ⌜ r ≡ highStart (shape (self .model)) (self .numbers) ⌝ }
-    {
-        let model = self.model;
-        let cut = self.at(CUT);
-        if shapes::has_fine_cut(model) {
-            return cut;
-        }
-        cut + 1
-    }
-
-    // How far a variable reaches in a piece: 0 is the low piece, any other number the high one.
+    // How far a variable reaches in a piece: 0 is the low piece, any other number the high one. By a fine cut each piece has the cut and the number
+    // after it; without one the cut is the last of the low piece.
     fn reach(self, piece: usize, variable: usize) -> u64
         requires { ⌜ (allInRange (shape (self .model)) (self .numbers) ≡ true) × (variable < variablesRoom) ⌝ }
         ensures { λ r. ⌜ r ≡ reach (shape (self .model)) (self .numbers) (pieceOf piece) variable ⌝ }
     {
         if variable == 0 {
+            let model = self.model;
+            let fine = shapes::has_fine_cut(model);
             if piece == 0 {
-                return span(self.lowest(0), self.low_end());
+                return span(self.lowest(0), self.cut_or_next(fine));
             }
-            return span(self.high_start(), self.highest(0));
+            return span(self.cut_or_next(!fine), self.highest(0));
         }
         span(self.lowest(variable), self.highest(variable))
     }

@@ -14,25 +14,25 @@ use native.Mathlib.Nat as N
 use native.Mathlib.Omega.{arith}
 use lib.Dec.{eqb}
 use lib.IntN.{ℤ, pos, natAbs, _-ℤ_}
-use lib.ListN.{length, getD, take}
+use lib.ListN.{length, take}
 use lib.Seq.{getD-take, length-take-le}
 use Rattle.polynomials.specs.Sum.{listed}
 use Rattle.polynomials.specs.Groups.{longer}
 use Rattle.polynomials.proofs.Listed.{length-listed, getD-listed, listed-is}
 use Rattle.layout.specs.declared.Model.{Model}
 use Rattle.layout.specs.Shape.{Shape, limitsLength, tableLength, shape}
-use Rattle.layout.specs.Numbers.{limitsRoom, reachesRoom}
+use Rattle.layout.specs.Numbers.{limitsRoom}
 use Rattle.layout.specs.Limits.{farthestLimit, longestShift, allInRange, good}
 use Rattle.layout.specs.Blocks.{Piece, low, high}
 use Rattle.layout.specs.Sound.{reach, withinCap}
 use Rattle.layout.specs.Reaches.{reachAt, listedReaches, reachesOf}
 use Rattle.layout.specs.Refusals.{first}
 use Rattle.layout.specs.Moving.{owner, shiftAt, movedLimit, movedLimits, moveReach, moveLight, moveNumber, moveOutput}
-use Rattle.layout.proofs.Fine.{well-formed, few-variables, few-limits}
+use Rattle.layout.proofs.Fine.{well-formed, few-limits}
 use Rattle.laws.proofs.LimitLaws.{SameLimits, allInRange-same, reach-same}
 use Rattle.laws.proofs.Moved.{getD-movedLimits}
 use Rattle.laws.proofs.Refused.{move-asked, move-kept}
-use Rattle.laws.proofs.Reaches.{reach-one, reach-other, longer-other, listed-reach, listed-one}
+use Rattle.laws.proofs.Reaches.{reach-one, reach-other, longer-other, listed-reach}
 use Rattle.laws.proofs.SoundMoved.{move-within, moved-reach-within}
 use Rattle.laws.proofs.Weights.{withinCap-agreed}
 use Rattle.limits.specs.declared.Limits.{Limits}

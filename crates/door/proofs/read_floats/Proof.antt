@@ -8,7 +8,6 @@ use borrow.Author.Needs.{needs}
 use lib.IntN.{ℤ, pos}
 use lib.ListN.{length, getD}
 use lib.Ieee.{Float, ofBits}
-use Rattle.polynomials.specs.Sum.{listed}
 use Rattle.polynomials.specs.Groups.{total}
 use Rattle.polynomials.proofs.Listed.{length-listed, getD-listed, listed-ext}
 use Rattle.layout.specs.declared.Model.the-variants.{Cumulus}

@@ -1,7 +1,6 @@
 -- `door::true_piece` meets its contract, by what the comparison says. Assumes nothing.
 use mathlib.Core.Path.{_≡_, sym, _∙_, ap}
 use mathlib.Core.Bool.{cond}
-use lib.IntN.{ℤ}
 use Rattle.layout.specs.Shape.{cumulus, shape}
 use Rattle.layout.specs.Limits.{fineCut}
 use Rattle.limits.proofs.Held.{held}

@@ -4,7 +4,7 @@ use mathlib.Core.Path.{_≡_, refl, sym, _∙_}
 use mathlib.Core.Logic.{_↔_, _⊎_}
 use mathlib.Core.Bool.{true, false}
 use mathlib.Core.List.{List, map}
-use Prim.Native.Nat.{ℕ, _+_, _-_, _*_, _≤_, _<_}
+use Prim.Native.Nat.{ℕ, _+_, _-_, _*_, _≤_, _<_, max}
 use native.Mathlib.Omega.{arith}
 use lib.IntN.{ℤ, pos, negsuc, negℤ, natAbs, _+ℤ_}
 use lib.ListN.{length, getD, replicate}
@@ -12,8 +12,9 @@ use Rattle.polynomials.specs.Order.{below}
 use Rattle.polynomials.specs.Groups.{less}
 use Rattle.layout.specs.declared.Model.the-variants.{Gtm}
 use Rattle.layout.specs.Shape.{WellFormed, limitsLength, kindsLength, blockLength, blockStart, tableLength, cumulus, gtm}
-use Rattle.layout.specs.Limits.{allInRange}
-use Rattle.layout.specs.Sound.{light, SoundTable}
+use Rattle.layout.specs.Limits.{lowest, highest, cut, allInRange}
+use Rattle.layout.specs.Blocks.{low, high}
+use Rattle.layout.specs.Sound.{reach, light, SoundTable}
 use Rattle.layout.specs.Refusals.{done, wrongTable, wrongOutput, noVariable, limitPast, moveTooHeavy, outside}
 use Rattle.layout.specs.Publishing.{publishNumber, publishOutput}
 use Rattle.layout.specs.Reading.{readings, inside, values, readNumber, readOutput}
@@ -40,6 +41,11 @@ well = every-model-is-well-formed Gtm
 pub gtm-table-numbers : (tableLength gtm ≡ 65) × (limitsLength gtm ≡ 5) × (gtm .blocks ≡ 3) × (blockLength gtm ≡ 20)
 unfolding kindsLength below
 gtm-table-numbers = (refl, refl, refl, refl)
+
+-- It has no fine cut: alpha reaches from its lowest to the cut in the low piece, and from the cut + 1 to its highest in the high one.
+pub gtm-alpha-reaches : (t : List ℤ)
+    → (reach gtm t low 0 ≡ max 1 (max (natAbs (lowest gtm t 0)) (natAbs (cut gtm t)))) × (reach gtm t high 0 ≡ max 1 (max (natAbs (cut gtm t +ℤ pos 1)) (natAbs (highest gtm t 0))))
+gtm-alpha-reaches t = (refl, refl)
 
 -- The blocks start at 5, 25 and 45.
 pub gtm-block-starts : (b : ℕ) → blockStart gtm b ≡ 5 + 20 * b
