@@ -14,13 +14,13 @@ use lib.IntN.{ℤ, pos, natAbs, _+ℤ_, _*ℤ_}
 use lib.Signed.{leZ, _≤ℤ_, _<ℤ_}
 use lib.Ieee.{Float}
 use lib.Ieee.Scale.{finite}
-use Rattle.whole.specs.Down.{roundedDown}
+use Rattle.whole.specs.Down.{thousand, roundedDown}
 use Rattle.whole.proofs.Down.{down-is}
 use Rattle.whole.proofs.Identity.{quote, quote-pos, ring2}
 use Rattle.whole.proofs.Linear.{zarith}
 use Rattle.whole.proofs.Order.{two-sided, from-two, ≤ℤ-trans, <ℤ-≤ℤ}
 use Rattle.layout.specs.Shape.{cumulus}
-use Rattle.layout.specs.Limits.{lowest, highest, cut, fineCut, thousand, farthestLimit, good}
+use Rattle.layout.specs.Limits.{lowest, highest, cut, fineCut, farthestLimit, good}
 use Rattle.layout.specs.Blocks.{Piece, low, high}
 use Rattle.layout.specs.Sound.{reach}
 use Rattle.layout.specs.Reading.{inside, pieceAt}

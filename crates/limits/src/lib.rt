@@ -197,7 +197,7 @@ impl Limits {
         self.in_order(1) & self.in_order(2) & self.in_order(3) & self.in_order(4)
     }
 
-    // Whether the cut is the fine cut in whole ones, rounded down.
+    // Whether the cut is the fine cut divided by 1000 and rounded down.
     fn cuts_agree(self) -> bool
         requires { ⌜ allInRange (shape (self .model)) (self .numbers) ≡ true ⌝ }
         ensures { λ r. ⌜ r ≡ cutsAgree (shape (self .model)) (self .numbers) ⌝ }

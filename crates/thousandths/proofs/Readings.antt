@@ -12,7 +12,7 @@ use lib.IntN.{ℤ, pos, _+ℤ_, _*ℤ_}
 use lib.Signed.{leZ, _≤ℤ_, _<ℤ_, leZ-yes, clashℤ}
 use lib.Ieee.{Float}
 use Rattle.whole.specs.Nearest.{twiceOff}
-use Rattle.whole.specs.Down.{roundedDown}
+use Rattle.whole.specs.Down.{thousand, roundedDown}
 use Rattle.whole.proofs.Identity.{quote, quote-pos, ring2, ring4}
 use Rattle.whole.proofs.Linear.{zarith, quote-natAbs}
 use Rattle.whole.proofs.Order.{le-in, ≤ℤ-or-<ℤ, <ℤ-next, ≤ℤ-mul, ≤ℤ-trans}
@@ -21,7 +21,7 @@ use Rattle.whole.proofs.Down.{down-is, down-most}
 use Rattle.rounding.specs.Value.{numerator, denominator}
 use Rattle.rounding.specs.Reading.{wholeOf}
 use Rattle.rounding.proofs.Nearest.{denominator-pos, reading-nearest}
-use Rattle.thousandths.specs.Thousandths.{thousand, atMostThousandths}
+use Rattle.thousandths.specs.Thousandths.{atMostThousandths}
 use Rattle.thousandths.proofs.Up.{same-test}
 
 -- ════ of any fraction z / m, and a whole number q that is within a half of it

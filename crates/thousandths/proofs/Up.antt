@@ -14,7 +14,7 @@ use lib.Signed.{leZ, _≤ℤ_, leZ-yes}
 use lib.Ieee.{Float, nan, inf, fin, up, lt}
 use lib.Ieee.Positive.{num, den}
 use borrow.Author.Tests.{ltb-true, ltb-false}
-use Rattle.whole.specs.Down.{roundedDown}
+use Rattle.whole.specs.Down.{thousand, roundedDown}
 use Rattle.whole.proofs.Ring.{ext, balance-+, neg-*ℤ}
 use Rattle.whole.proofs.Identity.{quote, quote-pos, by, ring1, ring2, ring3}
 use Rattle.whole.proofs.Linear.{zarith}
@@ -22,7 +22,7 @@ use Rattle.whole.proofs.Order.{le-in, ≤ℤ-mul}
 use Rattle.whole.proofs.Down.{down-is, down-most, down-same}
 use Rattle.rounding.specs.Value.{numerator, denominator}
 use Rattle.rounding.proofs.Nearest.{denominator-pos}
-use Rattle.thousandths.specs.Thousandths.{thousand, atMostThousandths}
+use Rattle.thousandths.specs.Thousandths.{atMostThousandths}
 use Rattle.thousandths.specs.Steps.{IsParts, thousandthsUp}
 
 -- ════ by the parts of the magnitude

@@ -4,9 +4,8 @@ use Prim.Native.Nat.{ℕ, _*_, _^_, _<_}
 use lib.IntN.{ℤ, pos, negℤ, _*ℤ_}
 use lib.Ieee.{Float}
 use lib.Ieee.Positive.{num, den}
-use Rattle.whole.specs.Down.{roundedDown}
+use Rattle.whole.specs.Down.{thousand, roundedDown}
 use Rattle.rounding.specs.Value.{numerator, denominator}
-use Rattle.thousandths.specs.Thousandths.{thousand}
 
 -- the magnitude of x is digits / 2 ^ shift
 pub record IsParts (x : Float) (digits shift : ℕ) : Type 0 where

@@ -1,13 +1,10 @@
 -- A float against a number of thousandths, as exact numbers: the two fractions are crossed, and nothing is rounded.
-use Prim.Native.Nat.{ℕ}
 use mathlib.Core.Bool.{Bool}
 use lib.IntN.{ℤ, pos, _*ℤ_}
 use lib.Signed.{leZ}
 use lib.Ieee.{Float}
+use Rattle.whole.specs.Down.{thousand}
 use Rattle.rounding.specs.Value.{numerator, denominator}
-
-abbrev pub thousand : ℕ
-thousand = 1000
 
 -- x is at most k thousandths
 unfoldable pub atMostThousandths : Float → ℤ → Bool

@@ -9,7 +9,7 @@ use lib.Signed.{_≤ℤ_, _<ℤ_}
 use mir.Syntax.{w64}
 use mir.Val.{SFits}
 use Rattle.whole.specs.Nearest.{nearestAway, IsNearestAway}
-use Rattle.whole.specs.Down.{roundedDown}
+use Rattle.whole.specs.Down.{roundedDown, thousand}
 use Rattle.whole.proofs.Solver.{atom, lit, neglit, _⊕_, _⊝_, _⊗_, ⊖_, _↑_, same}
 use Rattle.whole.proofs.Identity.{quote, quote-pos, quote-negsuc, quote-minus, by, by-eq, ring1, ring2, ring3, ring4, ring5, ring6}
 use Rattle.whole.proofs.Linear.{zarith, quote-natAbs}
@@ -108,6 +108,6 @@ far-refused : IsNearestAway 4 (pos 3) (pos 0) → ⊥
 far-refused h = omega (arith, h .near)
 
 -- down, on both sides of zero
-thousands : map (roundedDown 1000) (negsuc 1000 ∷ negsuc 999 ∷ negsuc 0 ∷ pos 0 ∷ pos 999 ∷ pos 1000 ∷ []) ≡ negsuc 1 ∷ negsuc 0 ∷ negsuc 0 ∷ pos 0 ∷ pos 0 ∷ pos 1 ∷ []
+thousands : map (roundedDown thousand) (negsuc 1000 ∷ negsuc 999 ∷ negsuc 0 ∷ pos 0 ∷ pos 999 ∷ pos 1000 ∷ []) ≡ negsuc 1 ∷ negsuc 0 ∷ negsuc 0 ∷ pos 0 ∷ pos 0 ∷ pos 1 ∷ []
 unfolding roundedDown
 thousands = refl

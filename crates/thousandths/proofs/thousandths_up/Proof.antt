@@ -9,11 +9,10 @@ use mir.Syntax.{w64}
 use mir.Val.{SFits}
 use mir.Facts.{toZ-ofZ}
 use borrow.Author.Needs.{needs}
-use Rattle.whole.specs.Down.{roundedDown}
+use Rattle.whole.specs.Down.{thousand, roundedDown}
 use Rattle.whole.proofs.Magnitudes.{natAbs-+, natAbs--}
 use Rattle.whole.proofs.Machine.{natAbs-sfits, op-bits, op-back}
 use Rattle.whole.proofs.Down.{down-size}
-use Rattle.thousandths.specs.Thousandths.{thousand}
 use Rattle.thousandths.specs.Steps.{IsParts}
 use Rattle.thousandths.proofs.Up.{up-below, up-from}
 use Rattle.thousandths.proofs.thousandths_up.Statement.{statement}

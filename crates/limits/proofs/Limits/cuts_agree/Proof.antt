@@ -9,12 +9,12 @@ use lib.IntN.{ℤ, pos, natAbs, _+ℤ_, _*ℤ_}
 use lib.Signed.{leZ, ltZ}
 use mir.Syntax.{w64}
 use mir.Val.{SFits, toZ, ofZ}
-use Rattle.whole.specs.Down.{roundedDown}
+use Rattle.whole.specs.Down.{thousand, roundedDown}
 use Rattle.whole.proofs.Identity.{quote, quote-pos, ring1}
 use Rattle.whole.proofs.Linear.{zarith, quote-natAbs}
 use Rattle.whole.proofs.Machine.{op-bits, op-back}
 use Rattle.layout.specs.Shape.{Shape, shape}
-use Rattle.layout.specs.Limits.{cut, fineCut, thousand, farthestLimit, same}
+use Rattle.layout.specs.Limits.{cut, fineCut, farthestLimit, same}
 use Rattle.layout.proofs.Fine.{well-formed}
 use Rattle.laws.proofs.LimitLaws.{cut-within, same-bounds}
 use Rattle.limits.proofs.Held.{held}

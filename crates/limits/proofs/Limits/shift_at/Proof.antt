@@ -7,10 +7,11 @@ use lib.IntN.{ℤ, pos, natAbs, _*ℤ_}
 use mir.Syntax.{w64}
 use mir.Val.{SFits}
 use mir.Facts.{toZ-ofZ}
+use Rattle.whole.specs.Down.{thousand}
 use Rattle.whole.proofs.Identity.{quote, quote-pos, ring1}
 use Rattle.whole.proofs.Linear.{zarith, quote-natAbs}
 use Rattle.whole.proofs.Machine.{op-bits, op-back}
-use Rattle.layout.specs.Limits.{thousand, longestShift}
+use Rattle.layout.specs.Limits.{longestShift}
 use Rattle.limits.proofs.Limits.shift_at.Statement.{statement}
 use Rattle.limits.proofs.Limits.shift_at.Tie as tie
 
