@@ -96,7 +96,7 @@ module _ (S : Shape) (t x : List ℤ) (whole : ℤ) (g at : ℕ) (sum : ℤ) (m 
     unfolding totalWeight
     heavier = subst (λ gs. natAbs sum + totalWeight gs (sizes (readings x)) ≤ cap) (groups-next S g k e t at) (m .light)
 
-    pub next-ready : FineKind (S .variables) k → length x ≡ S .variables → GroupAt t at (size (k .degree)) (k .u) (k .v) x
+    pub next-ready : FineKind (S .variables) k → S .variables ≤ length x → GroupAt t at (size (k .degree)) (k .u) (k .v) x
     next-ready f l =
         record {
           inside = omega (arith, length-next S g k e, m .inside);

@@ -28,7 +28,7 @@ pub record Valued (S : Shape) (t : List ℤ) (b n : ℕ) (x : List ℤ) : Type 0
   pub whole : length t ≡ tableLength S
   pub block : b < S .blocks
   pub half : n < 2
-  pub state : length x ≡ S .variables
+  pub state : S .variables ≤ length x
   pub light : totalWeight (coefficient S t b (piece n)) (sizes (readings x)) ≤ cap
 
 -- reaches of 1, variable i's longer by |s|

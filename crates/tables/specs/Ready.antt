@@ -15,6 +15,7 @@ use Rattle.layout.specs.Refusals.{Refusal, _when_, first, wrongTable, wrongOutp
 -- to read every block's coefficient into an output
 pub record AllValued (S : Shape) (t : List ℤ) (n : ℕ) (x out : List ℤ) : Type 0 where
   pub room : length out ≡ S .blocks
+  pub state : length x ≡ S .variables
   pub valued : (b : ℕ) → b < S .blocks → Valued S t b n x
 
 -- what makes a table of the right length unsound
