@@ -3,6 +3,7 @@ ghost use mathlib.Core.Path.{_≡_};
 ghost use mathlib.Core.List.{[], _∷_};
 ghost use Rattle.layout.specs.Shape.{cumulus, gtm};
 ghost use Rattle.layout.specs.Reading.{readings, readNumber, readOutput};
+ghost use Rattle.layout.specs.Many.{manyNumber, manyNumbers, manyOutput};
 ghost use Rattle.layout.specs.Moving.{moveNumber, moveOutput};
 ghost use Rattle.layout.specs.Publishing.{publishNumber, publishOutput};
 ghost use Rattle.cumulus_page.specs.Published.{published};
@@ -34,6 +35,20 @@ pub extern "C" fn clochecloak_read(
 {
     let state = [alpha, beta, xi, eta, zeta];
     cumulus::read(table, state, out)
+}
+
+#[no_mangle]
+pub extern "C" fn clochecloak_read_many(
+    table: &[i64],
+    states: &[i64],
+    numbers: &mut [u64],
+    out: &mut [i64],
+) -> u64
+    ensures number { λ r. ⌜ r ≡ manyNumber cumulus (now (table .entry)) (now (states .entry)) (now (numbers .entry)) (now (out .entry)) ⌝ }
+    ensures numbers { λ r. ⌜ now (numbers .exit) ≡ manyNumbers cumulus (now (table .entry)) (now (states .entry)) (now (numbers .entry)) (now (out .entry)) ⌝ }
+    ensures output { λ r. ⌜ now (out .exit) ≡ manyOutput cumulus (now (table .entry)) (now (states .entry)) (now (numbers .entry)) (now (out .entry)) ⌝ }
+{
+    cumulus::read_many(table, states, numbers, out)
 }
 
 #[no_mangle]

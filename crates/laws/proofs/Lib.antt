@@ -10,6 +10,7 @@
 --   Weights       weights within the cap, as facts
 --   Refused       which number is given back
 --   Accepted      what the number given back tells
+--   Many          many states of a table
 --   Published     what publishing a table answers and leaves
 --   Moved         the moved table
 --   SoundMoved    a sound table that may be moved stays sound
@@ -28,6 +29,7 @@ pub mod Reaches
 pub mod Weights
 pub mod Refused
 pub mod Accepted
+pub mod Many
 pub mod Published
 pub mod Moved
 pub mod SoundMoved

@@ -4,7 +4,7 @@
 --   Split         the low and the high group are alike, in variable 0 and another, and those after them are in other variables
 --   own-twice, two-groups, own-fine   the first two groups are one kind, the own group, and it is such a group
 --   inside        every block lies in the table
---   few-variables, few-limits, few-fine, few-table, few-block, some-block, some-table   how many there are at most, and at least
+--   few-variables, few-limits, few-fine, few-table, few-block, some-blocks, some-block, some-table   how many there are at most, and at least
 use mathlib.Core.Path.{_≡_, refl, sym, ap, subst}
 use mathlib.Core.List.{List, [], _∷_}
 use Prim.Native.Nat.{ℕ, zero, suc, _+_, _*_, _≤_, _<_}
@@ -116,6 +116,10 @@ pub few-block : (m : Model) → blockLength (shape m) ≤ tableSize
 unfolding kindsLength below
 few-block Cumulus = omega arith
 few-block Gtm = omega arith
+
+pub some-blocks : (m : Model) → 0 < shape m .blocks
+some-blocks Cumulus = omega arith
+some-blocks Gtm = omega arith
 
 pub some-block : (m : Model) → 0 < blockLength (shape m)
 unfolding kindsLength below

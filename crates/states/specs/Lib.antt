@@ -1,0 +1,2 @@
+-- What the inner functions ask of their callers.
+pub mod Ready
