@@ -6,24 +6,27 @@ use layout::VARIABLES_ROOM;
 use layout::refusals::DONE;
 ghost use mathlib.Core.Path.{_≡_};
 ghost use mathlib.Core.Bool.{true, not, cond, _&&_};
-ghost use Prim.Native.Nat.{_-_, suc, _≤_, _<_, max};
+ghost use Prim.Native.Nat.{_≤_, _<_, max};
 ghost use lib.Dec.{ltb};
 ghost use lib.IntN.{pos, natAbs, _+ℤ_};
 ghost use lib.ListN.{length, take, getD};
-ghost use lib.Signed.{leZ, ltZ};
+ghost use lib.Signed.{leZ};
 ghost use Rattle.polynomials.specs.Sum.{listed};
 ghost use Rattle.layout.specs.Shape.{shape, limitsLength, lowestPlace};
 ghost use Rattle.layout.specs.Numbers.{variablesRoom, limitsRoom};
-ghost use Rattle.layout.specs.Limits.{every, lowest, highest, cut, fineCut, isFineCut, longestShift, inRange, allInRange, inOrder, cutsAgree, good};
+ghost use Rattle.layout.specs.Limits.{lowest, highest, cut, fineCut, isFineCut, longestShift, inRange, allInRange, cutsAgree, good};
 ghost use Rattle.layout.specs.Blocks.{piece as pieceOf};
 ghost use Rattle.layout.specs.Sound.{span, reach};
 ghost use Rattle.layout.specs.Reaches.{listedReaches};
 ghost use Rattle.layout.specs.Refusals.{outside, first, _when_};
 ghost use Rattle.layout.specs.Reading.{readings, inside};
 ghost use Rattle.layout.specs.Moving.{owner, shiftAt, movedLimit};
+ghost use Rattle.limits.specs.Good.{variableGood, firstGood, othersGood};
 
-// The greatest limit that is in range.
+// The greatest limit that is in range, and the least.
 pub const MOST: i64 = 2000;
+
+const LEAST: i64 = -MOST;
 
 // And the greatest magnitude.
 const FARTHEST: u64 = MOST as u64;
@@ -170,31 +173,38 @@ impl Limits {
         true
     }
 
-    // Whether the lowest reading of a variable is at most its highest, or the model has no such variable.
-    fn in_order(self, variable: usize) -> bool
+    // Whether the limits of a variable are in range and in order, or the model has no such variable.
+    fn variable_good(self, variable: usize) -> bool
         requires { ⌜ variable < variablesRoom ⌝ }
-        ensures { λ r. ⌜ r ≡ cond (ltb variable (shape (self .model) .variables)) (inOrder (shape (self .model)) (self .numbers) variable) true ⌝ }
+        ensures { λ r. ⌜ r ≡ cond (ltb variable (shape (self .model) .variables)) (variableGood (shape (self .model)) (self .numbers) variable) true ⌝ }
     {
         let model = self.model;
         if variable >= shapes::variables(model) {
             return true;
         }
-        self.lowest(variable) <= self.highest(variable)
+        let lowest = self.lowest(variable);
+        let highest = self.highest(variable);
+        (LEAST <= lowest) & (lowest <= highest) & (highest <= MOST)
     }
 
-    // Whether the cut leaves variable 0 a low and a high piece.
-    fn cut_in_order(self) -> bool
-        ensures { λ r. ⌜ r ≡ (leZ (lowest (shape (self .model)) (self .numbers) 0) (cut (shape (self .model)) (self .numbers)) && ltZ (cut (shape (self .model)) (self .numbers)) (highest (shape (self .model)) (self .numbers) 0)) ⌝ }
+    // The same of variable 0, whose cut leaves it a low and a high piece: it lies between the ends, and is in range with them.
+    fn first_good(self) -> bool
+        ensures { λ r. ⌜ r ≡ firstGood (shape (self .model)) (self .numbers) ⌝ }
     {
+        let lowest = self.lowest(0);
         let cut = self.at(CUT);
-        (self.lowest(0) <= cut) & (cut < self.highest(0))
+        let highest = self.highest(0);
+        (LEAST <= lowest) & (lowest <= cut) & (cut < highest) & (highest <= MOST)
     }
 
-    // Whether the limits of every variable but the first are in order.
-    fn others_in_order(self) -> bool
-        ensures { λ r. ⌜ r ≡ every (shape (self .model) .variables - 1) (λ i. inOrder (shape (self .model)) (self .numbers) (suc i)) ⌝ }
+    // The same of every variable but the first.
+    fn others_good(self) -> bool
+        ensures { λ r. ⌜ r ≡ othersGood (shape (self .model)) (self .numbers) ⌝ }
     {
-        self.in_order(1) & self.in_order(2) & self.in_order(3) & self.in_order(4)
+        self.variable_good(1)
+            & self.variable_good(2)
+            & self.variable_good(3)
+            & self.variable_good(4)
     }
 
     // Whether the cut is the fine cut divided by 1000 and rounded down.
@@ -211,17 +221,14 @@ impl Limits {
         (from <= fine) & (fine < from + THOUSAND)
     }
 
-    // Whether every limit is in range, the limits of every variable are in order, and the two cuts agree.
+    // Whether the limits of every variable are in range and in order, and the two cuts agree.
     pub fn good(self) -> bool
         ensures { λ r. ⌜ r ≡ good (shape (self .model)) (self .numbers) ⌝ }
     {
-        if !self.cut_in_order() {
+        if !self.first_good() {
             return false;
         }
-        if !self.others_in_order() {
-            return false;
-        }
-        if !self.in_range() {
+        if !self.others_good() {
             return false;
         }
         self.cuts_agree()

@@ -1,0 +1,2 @@
+-- When the limits of each variable are good.
+pub mod Good
