@@ -12,9 +12,9 @@ ghost use lib.IntN.{pos, natAbs, _+ℤ_};
 ghost use lib.ListN.{length, take, getD};
 ghost use lib.Signed.{leZ};
 ghost use Rattle.polynomials.specs.Sum.{listed};
-ghost use Rattle.layout.specs.Shape.{shape, limitsLength, lowestPlace};
+ghost use Rattle.layout.specs.Shape.{shape, lowestPlace};
 ghost use Rattle.layout.specs.Numbers.{variablesRoom, limitsRoom};
-ghost use Rattle.layout.specs.Limits.{lowest, highest, cut, fineCut, isFineCut, longestShift, inRange, allInRange, cutsAgree, good};
+ghost use Rattle.layout.specs.Limits.{lowest, highest, cut, fineCut, isFineCut, longestShift, allInRange, cutsAgree, good};
 ghost use Rattle.layout.specs.Blocks.{piece as pieceOf};
 ghost use Rattle.layout.specs.Sound.{span, reach};
 ghost use Rattle.layout.specs.Reaches.{listedReaches};
@@ -27,9 +27,6 @@ ghost use Rattle.limits.specs.Good.{variableGood, firstGood, othersGood}
 pub const MOST: i64 = 2000;
 
 const LEAST: i64 = -MOST;
-
-// And the greatest magnitude.
-const FARTHEST: u64 = MOST as u64;
 
 // The cut of variable 0 stands between its lowest and its highest reading, and its fine cut, where the model has one, behind them.
 const CUT: usize = 1;
@@ -146,31 +143,6 @@ impl Limits {
             return 0;
         }
         (place - before) / 2
-    }
-
-    // Whether the limit at a place lies in -2000..2000, or is the fine cut, or the model has none there.
-    fn place_in_range(self, place: usize) -> bool
-        requires { ⌜ place < limitsRoom ⌝ }
-        ensures { λ r. ⌜ r ≡ cond (ltb place (limitsLength (shape (self .model)))) (inRange (shape (self .model)) (self .numbers) place) true ⌝ }
-    {
-        let model = self.model;
-        (shapes::limits(model) <= place)
-            | self.is_fine_cut(place)
-            | (whole::magnitude(self.at(place)) <= FARTHEST)
-    }
-
-    // Whether each limit lies in -2000..2000, which the fine cut is not held to.
-    pub fn in_range(self) -> bool
-        ensures { λ r. ⌜ r ≡ allInRange (shape (self .model)) (self .numbers) ⌝ }
-    {
-        let mut k: usize = 0;
-        while k < LIMITS_ROOM {
-            if !self.place_in_range(k) {
-                return false;
-            }
-            k += 1;
-        }
-        true
     }
 
     // Whether the limits of a variable are in range and in order, or the model has no such variable.
