@@ -11,7 +11,7 @@
 --   Together    law 7: any number of groups
 --   Downward    sums from the highest power down
 --   DownwardBounds   what such a sum stays within
---   Cap, Spots, MultipliedRows   what the code uses: a sum against the cap, the places of one variable's powers, the rows of a shift
+--   Cap, Chains, MultipliedRows  what the code uses: a sum against the cap, the places of one variable's powers, the rows of a shift
 --   controls    computed facts beside the definitions
 pub mod Semiring
 pub mod Sums
@@ -26,6 +26,6 @@ pub mod Together
 pub mod Downward
 pub mod DownwardBounds
 pub mod Cap
-pub mod Spots
+pub mod Chains
 pub mod MultipliedRows
 pub mod controls

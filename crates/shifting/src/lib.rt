@@ -10,7 +10,7 @@ ghost use Rattle.polynomials.specs.Binomial.{multipliedOut, multipliedRows, shi
 ghost use Rattle.polynomials.specs.Group.{own, movedNumber, moved};
 ghost use Rattle.polynomials.specs.Limits.{farthest, highestDegree};
 ghost use Rattle.polynomials.specs.Ready.{Movable};
-use polynomials::Powers;
+ghost use Rattle.polynomials.specs.declared.Variable.the-variants.{First, Second};
 use polynomials::Variable;
 
 // The binomial numbers for powers 0 to 4: k over p stands in row k at p.
@@ -52,66 +52,73 @@ pub fn multiplied_out(s: i64) -> [[i64; 5]; 5]
     ]
 }
 
-// The power of the variable.
-fn own(w: Powers, which: Variable) -> usize
-    ensures { λ r. ⌜ r ≡ own which (w .first) (w .second) ⌝ }
+// The other variable.
+fn other(which: Variable) -> Variable
+    ensures { λ r. ⌜ r ≡ own which Second First ⌝ }
 {
     match which {
-        Variable::First => w.first,
-        Variable::Second => w.second,
+        Variable::First => Variable::Second,
+        Variable::Second => Variable::First,
     }
 }
 
-// How many places further on the next larger power of the variable stands.
-fn gap(w: Powers, which: Variable) -> usize
-    requires { ⌜ w .first + w .second + 2 < 2 ^ 64 ⌝ }
-    ensures { λ r. ⌜ r ≡ own which (w .first + w .second + 1) (w .first + w .second + 2) ⌝ }
+// How many places further on than a number of the total degree the one stands that has one power more of the variable.
+fn gap(degree: usize, which: Variable) -> usize
+    requires { ⌜ degree + 2 < 2 ^ 64 ⌝ }
+    ensures { λ r. ⌜ r ≡ own which (degree + 1) (degree + 2) ⌝ }
 {
-    let degree = w.first + w.second;
     match which {
         Variable::First => degree + 1,
         Variable::Second => degree + 2,
     }
 }
 
-// The number that stands at the place `at`, before the powers `w`, once the group is moved by s: the larger powers of the
-// variable stand further and further on, and each gives its number times what stands before the power of `w` in its row.
-fn moved_number(from: &[i64], which: Variable, at: usize, w: Powers, rows: &[[i64; 5]; 5]) -> i64
+// The number that stands before the power p of the variable beside the power `beside` of the other, at the place `at`, once the group is
+// moved by s: the larger powers of the variable stand further and further on, and each gives its number times what stands before p in its row.
+fn moved_number(
+    from: &[i64],
+    which: Variable,
+    at: usize,
+    beside: usize,
+    p: usize,
+    rows: &[[i64; 5]; 5],
+) -> i64
     ghost { ℤ }
     requires { λ s. ⌜ shiftIn (now rows) ≡ s ⌝ }
-    requires { λ s. ⌜ (now rows ≡ multipliedRows s) × (Movable which s (now from) × ((at ≡ place (w .first) (w .second)) × (at < length (now from)))) ⌝ }
-    ensures { λ s r. ⌜ r ≡ movedNumber ints which s (now (from .entry)) (w .first) (w .second) ⌝ }
+    requires { λ s. ⌜ (now rows ≡ multipliedRows s) × (Movable which s (now from) × ((at ≡ place (own which p beside) (own which beside p)) × (at < length (now from)))) ⌝ }
+    ensures { λ s r. ⌜ r ≡ movedNumber ints which s (now (from .entry)) (own which p beside) (own which beside p) ⌝ }
 {
-    let mut gap = gap(w, which);
     let mut sum: i64 = 0;
     let mut i = at;
     let mut j: usize = 0;
     while i < from.len() {
-        let own = own(w, which);
-        sum += from[i] * rows[own + j][own];
-        i += gap;
-        gap += 1;
+        sum += from[i] * rows[p + j][p];
+        i += gap(beside + p + j, which);
         j += 1;
     }
     sum
 }
 
-// The group moved by s in one variable, written into `out`, by the powers of v + s multiplied out.
+// The group moved by s in one variable, written into `out`, by the powers of v + s multiplied out: chain by chain, each of the numbers
+// that differ only in the power of the variable.
 pub fn move_group(from: &[i64], out: &mut [i64], which: Variable, rows: &[[i64; 5]; 5])
     ghost { ℤ }
     requires { λ s. ⌜ shiftIn (now rows) ≡ s ⌝ }
     requires { λ s. ⌜ (now rows ≡ multipliedRows s) × (Movable which s (now from) × (length (now out) ≡ length (now from))) ⌝ }
     ensures { λ s r. ⌜ now (out .exit) ≡ moved which s (now (from .entry)) ⌝ }
 {
-    let mut w = Powers {
-        first: 0,
-        second: 0,
-    };
-    let mut at: usize = 0;
-    while at < from.len() {
-        let x = moved_number(from, which, at, w, rows);
-        out[at] = x;
-        w = w.next();
-        at += 1;
+    let mut beside: usize = 0;
+    let mut start: usize = 0;
+    while start < from.len() {
+        let mut at = start;
+        let mut p: usize = 0;
+        while at < from.len() {
+            let x = moved_number(from, which, at, beside, p, rows);
+            out[at] = x;
+            at += gap(beside + p, which);
+            p += 1;
+        }
+        start += gap(beside, other(which));
+        beside += 1;
     }
 }
