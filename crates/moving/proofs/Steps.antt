@@ -1,14 +1,17 @@
 -- What the code meets when it asks whether the datum of a variable may be moved.
 --   movedRoom, same-moved  the limits as the code moves them, in their room, have the moved limits of the table
 --   moved-held            they are what `Limits::moved` gives
+--   moved-good            where the table's limits are good, they are good exactly where those are in range
 --   moved-range, moved-reaches, moved-written   so they are in range where those are, reach as far, and are written as those
---   move-unsound          the refusal of an unsound table is the move's
+--   sound-behind, some-refusal   a refusal behind those of the table: the first where the table is sound, and in any case there is one
+--   move-own, move-bad, move-refused   the number of a move: the table's refusals, then the move's own
+--   move-allowed          of a table with good limits, a move that has no refusal of its own is accepted
 --   move-far              a move by more than the longest shift takes a limit out of its range
 --   lengthened            the moved reaches of the variable can be made longer by the size of the shift
 --   move-one, move-light  the longer ones are at least 1, and weigh what the weight rule asks
 use mathlib.Core.Path.{_≡_, refl, sym, _∙_, ap, subst}
-use mathlib.Core.Bool.{Bool, true, false, cond}
-use mathlib.Core.List.{List}
+use mathlib.Core.Bool.{Bool, true, false, not, cond}
+use mathlib.Core.List.{List, [], _∷_, _++_}
 use Prim.Native.Nat.{ℕ, zero, suc, _+_, _-_, _≤_, _<_}
 use native.Mathlib.Nat as N
 use native.Mathlib.Omega.{arith}
@@ -20,32 +23,72 @@ use Rattle.polynomials.specs.Sum.{listed}
 use Rattle.polynomials.specs.Groups.{longer}
 use Rattle.polynomials.proofs.Listed.{length-listed, getD-listed, listed-is}
 use Rattle.layout.specs.declared.Model.{Model}
-use Rattle.layout.specs.Shape.{Shape, limitsLength, tableLength, shape}
+use Rattle.layout.specs.Shape.{Shape, WellFormed, limitsLength, tableLength, shape}
 use Rattle.layout.specs.Numbers.{limitsRoom}
 use Rattle.layout.specs.Limits.{farthestLimit, longestShift, allInRange, good}
 use Rattle.layout.specs.Blocks.{Piece, low, high}
-use Rattle.layout.specs.Sound.{reach, withinCap}
+use Rattle.layout.specs.Sound.{reach, withinCap, light}
 use Rattle.layout.specs.Reaches.{reachAt, listedReaches, reachesOf}
-use Rattle.layout.specs.Refusals.{first}
-use Rattle.layout.specs.Moving.{owner, shiftAt, movedLimit, movedLimits, moveReach, moveLight, moveNumber, moveOutput}
+use Rattle.layout.specs.Refusals.{Refusal, _when_, first, badLimits, tooHeavy}
+use Rattle.layout.specs.Moving.{movedLimit, movedLimits, moveReach, moveLight, moveNumber}
+use Rattle.layout.specs.Accepted.{MoveAccepted}
 use Rattle.layout.proofs.Fine.{well-formed, few-limits}
 use Rattle.laws.proofs.LimitLaws.{SameLimits, allInRange-same, reach-same}
 use Rattle.laws.proofs.Moved.{getD-movedLimits}
-use Rattle.laws.proofs.Refused.{move-asked, move-kept}
+use Rattle.laws.proofs.Refused.{first-skip, first-hit, move-asked}
+use Rattle.laws.proofs.Accepted.{first-passed}
+use Rattle.laws.proofs.NearMoves.{light-kept}
 use Rattle.laws.proofs.Reaches.{reach-one, reach-other, longer-other, listed-reach}
 use Rattle.laws.proofs.SoundMoved.{move-within, moved-reach-within}
 use Rattle.laws.proofs.Weights.{withinCap-agreed}
 use Rattle.limits.specs.declared.Limits.{Limits}
-use Rattle.moving.specs.Ready.{Lengthened}
+use Rattle.limits.proofs.Moved.{room-moved, good-room-moved}
+use Rattle.moving.specs.Ready.{Lengthened, HoldsMoved, moveOwn}
 use Rattle.tables.specs.Ready.{unsound}
-use Rattle.tables.proofs.Taken.{taken, light-listed}
-use Rattle.tables.proofs.Steps.{first-apart, positive}
+use Rattle.tables.proofs.Taken.{taken, same-taken, light-listed}
+
+-- ════ what is refused
+-- what stands behind some refusals counts by the first of it alone
+first-behind : (rs : List Refusal) (qs ps : List Refusal) → first qs ≡ first ps → first (rs ++ qs) ≡ first (rs ++ ps)
+unfolding first
+first-behind [] qs ps e = e
+first-behind (r ∷ rs) qs ps e = ap (cond (r .holds) (r .number)) (first-behind rs qs ps e)
+
+first-only : (n : ℕ) → first ((n when true) ∷ []) ≡ n
+unfolding first
+first-only n = refl
+
+module _ (S : Shape) (t : List ℤ) (n : ℕ) where
+  -- behind those of a sound table a refusal is the first
+  pub sound-behind : good S t ≡ true → light S t ≡ true → first (unsound S t ++ (n when true) ∷ []) ≡ n
+  sound-behind g l = first-skip badLimits _ g ∙ first-skip tooHeavy _ l ∙ first-only n
+
+  pub some-refusal : 0 < n → 0 < first (unsound S t ++ (n when true) ∷ [])
+  unfolding first
+  some-refusal h = by (good S t) (light S t)
+    where
+      by : (g l : Bool) → 0 < cond (not g) badLimits (cond (not l) tooHeavy n)
+      by true true = h
+      by true false = omega arith
+      by false l = omega arith
 
 module _ (S : Shape) (t : List ℤ) (i : ℕ) (s : ℤ) (out : List ℤ) (a : length t ≡ tableLength S) (b : length out ≡ tableLength S) (v : i < S .variables) where
-  pub move-unsound : (n : ℕ) → n ≡ first (unsound S t) → (n ≡ 0 → ⊥) → (n ≡ moveNumber S t i s out) × (out ≡ moveOutput S t i s out)
-  move-unsound n e h =
-      let number : moveNumber S t i s out ≡ n = move-asked S t i s out a b v ∙ first-apart (unsound S t) _ (λ z. h (e ∙ z)) ∙ sym e in
-      (sym number, sym (move-kept S t i s out number (positive h)))
+  -- the refusals of the table, then the move's own
+  pub move-own : moveNumber S t i s out ≡ first (unsound S t ++ moveOwn S t i s)
+  move-own = move-asked S t i s out a b v
+
+  pub move-bad : good S t ≡ false → moveNumber S t i s out ≡ badLimits
+  move-bad g = move-own ∙ first-hit badLimits _ g
+
+  -- the weight rule implies that the table is light
+  pub move-allowed : WellFormed S → good S t ≡ true → first (moveOwn S t i s) ≡ 0 → MoveAccepted S t i s out
+  move-allowed w g e =
+      let f = first-passed 5 _ _ e in
+      let h = first-passed 6 _ _ (f .1) in
+      record { table = a; output = b; variable = v; limits = g; weights = light-kept S i s t (w .in-variables) (h .0); moved-limits = f .0; moved-weights = h .0 }
+
+  pub move-refused : (n : ℕ) → n ≡ first (moveOwn S t i s) → moveNumber S t i s out ≡ first (unsound S t ++ (n when true) ∷ [])
+  move-refused n e = move-own ∙ first-behind (unsound S t) (moveOwn S t i s) ((n when true) ∷ []) (sym e ∙ sym (first-only n))
 
 not-so : {b : Bool} → (b ≡ true → ⊥) → b ≡ false
 not-so {b = true} h = absurd (h refl)
@@ -75,13 +118,7 @@ module _ (m : Model) (t : List ℤ) (i : ℕ) (s : ℤ) where
   movedRoom = listed limitsRoom (movedLimit S i s (taken m t))
 
   pub same-moved : SameLimits S movedRoom moved
-  unfolding movedLimit
-  same-moved =
-      record {
-        at = λ k h.
-            let l : k < limitsRoom = omega (arith, few-limits m) in
-            getD-listed limitsRoom (movedLimit S i s (taken m t)) k (pos 0) l ∙ ap (λ z. cond (eqb (owner S k) i) (z -ℤ shiftAt S k s) z) (getD-take limitsRoom t k (pos 0) l) ∙ sym (getD-movedLimits S i s t k h);
-      }
+  same-moved = room-moved m i s (taken m t) t (same-taken m t)
 
   pub moved-written : take (limitsLength S) movedRoom ≡ moved
   unfolding movedLimits
@@ -90,16 +127,19 @@ module _ (m : Model) (t : List ℤ) (i : ℕ) (s : ℤ) where
 
   -- what `Limits::moved` gives of limits that are taken from the table
   pub moved-held : (k l : Limits) (z : ℤ) → (k .model ≡ m) × (k .numbers ≡ taken m t) → z ≡ s → (l .model ≡ k .model) × (l .numbers ≡ listed limitsRoom (movedLimit (shape (k .model)) i z (k .numbers)))
-      → (l .model ≡ m) × (l .numbers ≡ movedRoom)
-  moved-held k l z a e b = (b .0 ∙ a .0, b .1 ∙ (λ j. listed limitsRoom (movedLimit (shape (a .0 j)) i (e j) (a .1 j))))
+      → HoldsMoved m t i s l
+  moved-held k l z a e b = record { model = b .0 ∙ a .0; numbers = b .1 ∙ (λ j. listed limitsRoom (movedLimit (shape (a .0 j)) i (e j) (a .1 j))) }
 
   -- limits that hold them
-  module _ (l : Limits) (e : (l .model ≡ m) × (l .numbers ≡ movedRoom)) where
+  module _ (l : Limits) (e : HoldsMoved m t i s l) where
+    pub moved-good : good S t ≡ true → good (shape (l .model)) (l .numbers) ≡ allInRange S moved
+    moved-good g = (λ j. good (shape (e .model j)) (e .numbers j)) ∙ good-room-moved m i s (taken m t) t (same-taken m t) g
+
     pub moved-range : allInRange (shape (l .model)) (l .numbers) ≡ allInRange S moved
-    moved-range = (λ j. allInRange (shape (e .0 j)) (e .1 j)) ∙ allInRange-same same-moved
+    moved-range = (λ j. allInRange (shape (e .model j)) (e .numbers j)) ∙ allInRange-same same-moved
 
     pub moved-reaches : listedReaches (reach (shape (l .model)) (l .numbers)) ≡ listedReaches (reach S movedRoom)
-    moved-reaches = λ j. listedReaches (reach (shape (e .0 j)) (e .1 j))
+    moved-reaches = λ j. listedReaches (reach (shape (e .model j)) (e .numbers j))
 
   -- ════ the reaches of the weight rule
   abbrev pub longerReach : Piece → ℕ → ℕ

@@ -1,20 +1,21 @@
 // Moving the datum of one variable of a table.
 ghost use mathlib.Core.Path.{_≡_};
-ghost use mathlib.Core.Bool.{true, not};
+ghost use mathlib.Core.Bool.{true};
 ghost use mathlib.Core.List.{[], _∷_, _++_};
 ghost use Prim.Native.Nat.{_+_, _-_, _^_, _<_, _≤_};
 ghost use lib.ListN.{length, take, drop, getD};
 ghost use Rattle.polynomials.specs.Sum.{listed};
 ghost use Rattle.layout.specs.Shape.{shape, limitsLength, tableLength};
 ghost use Rattle.layout.specs.Numbers.{limitsRoom, reachesRoom};
-ghost use Rattle.layout.specs.Limits.{allInRange, good};
-ghost use Rattle.layout.specs.Moving.{movedLimits, movedTable, moveLight, moveNumber, moveOutput};
+ghost use Rattle.layout.specs.Moving.{movedTable, moveNumber, moveOutput};
 ghost use Rattle.layout.specs.Accepted.{MoveAccepted};
-ghost use Rattle.layout.specs.Refusals.{first, _when_, limitPast, moveTooHeavy};
-ghost use Rattle.moving.specs.Ready.{longerAt, Lengthened};
+ghost use Rattle.layout.specs.Refusals.{first, _when_};
+ghost use Rattle.tables.specs.Ready.{unsound};
+ghost use Rattle.moving.specs.Ready.{longerAt, Lengthened, HoldsMoved, Movable, moveOwn};
 use blocks::move_block;
 use layout::Model;
 use layout::REACHES_ROOM;
+use layout::refusals::BAD_LIMITS;
 use layout::refusals::DONE;
 use layout::refusals::LIMIT_PAST;
 use layout::refusals::MOVE_TOO_HEAVY;
@@ -83,33 +84,47 @@ fn write_limits(limits: Limits, out: &mut [i64])
     }
 }
 
-// The refusal of a move of a sound table: a limit that would leave its range, or the weight rule.
-fn refusal(model: Model, table: &[i64], variable: usize, shift: i64) -> u64
-    requires { ⌜ (length (now table) ≡ tableLength (shape model)) × ((variable < shape model .variables) × (good (shape model) (now table) ≡ true)) ⌝ }
-    ensures { λ r. ⌜ r ≡ first ((limitPast when not (allInRange (shape model) (movedLimits (shape model) variable shift (now (table .entry))))) ∷ (moveTooHeavy when not (moveLight (shape model) variable shift (now (table .entry)))) ∷ []) ⌝ }
+// The refusal of a move of a table with good limits, of which the moved ones are at hand: a limit that would leave its range, or the weight rule.
+// A move keeps the order of the limits, so that the moved ones are good where they are in range.
+fn refusal(model: Model, table: &[i64], moved: Limits, variable: usize, shift: i64) -> u64
+    requires { ⌜ Movable model (now table) variable shift moved ⌝ }
+    ensures { λ r. ⌜ r ≡ first (moveOwn (shape model) (now (table .entry)) variable shift) ⌝ }
 {
-    let size = whole::magnitude(shift);
-    if size > LONGEST {
+    if !moved.good() {
         return LIMIT_PAST;
     }
-    let limits = Limits::of(model, table).moved(variable, shift);
-    if !limits.in_range() {
-        return LIMIT_PAST;
-    }
-    let reaches = longer(limits.reaches(), variable, size);
+    let reaches = longer(moved.reaches(), variable, whole::magnitude(shift));
     if within_cap(model, table, reaches) {
         return DONE;
     }
     MOVE_TOO_HEAVY
 }
 
+// The refusal of a table that is not sound, which comes before any other of the move.
+fn unless_unsound(model: Model, table: &[i64], refused: u64) -> u64
+    requires { ⌜ length (now table) ≡ tableLength (shape model) ⌝ }
+    ensures { λ r. ⌜ r ≡ first (unsound (shape model) (now (table .entry)) ++ (refused when true) ∷ []) ⌝ }
+{
+    let unsound = soundness(model, table);
+    if unsound != DONE {
+        return unsound;
+    }
+    refused
+}
+
 // The moved table, written into `out`: the limits, then each block into the part that belongs to it.
-fn write_moved(model: Model, table: &[i64], variable: usize, shift: i64, out: &mut [i64])
-    requires { ⌜ MoveAccepted (shape model) (now table) variable shift (now out) ⌝ }
+fn write_moved(
+    model: Model,
+    table: &[i64],
+    moved: Limits,
+    variable: usize,
+    shift: i64,
+    out: &mut [i64],
+)
+    requires { ⌜ MoveAccepted (shape model) (now table) variable shift (now out) × HoldsMoved model (now table) variable shift moved ⌝ }
     ensures { λ r. ⌜ now (out .exit) ≡ movedTable (shape model) variable shift (now (table .entry)) ⌝ }
 {
-    let limits = Limits::of(model, table).moved(variable, shift);
-    write_limits(limits, out);
+    write_limits(moved, out);
     let rows = multiplied_out(shift);
     let size = shapes::block(model);
     let blocks = shapes::blocks(model);
@@ -128,6 +143,29 @@ fn write_moved(model: Model, table: &[i64], variable: usize, shift: i64, out: &m
     }
 }
 
+// Moves a variable of a table into an output as long. The weights are worked out once: those of the weight rule are no less than the table's own, which
+// are worked out only where the move is refused.
+fn move_whole(model: Model, table: &[i64], variable: usize, shift: i64, out: &mut [i64]) -> u64
+    requires { ⌜ (length (now table) ≡ tableLength (shape model)) × ((length (now out) ≡ tableLength (shape model)) × (variable < shape model .variables)) ⌝ }
+    ensures number { λ r. ⌜ r ≡ moveNumber (shape model) (now (table .entry)) variable shift (now (out .entry)) ⌝ }
+    ensures output { λ r. ⌜ now (out .exit) ≡ moveOutput (shape model) (now (table .entry)) variable shift (now (out .entry)) ⌝ }
+{
+    let limits = Limits::of(model, table);
+    if !limits.good() {
+        return BAD_LIMITS;
+    }
+    if whole::magnitude(shift) > LONGEST {
+        return unless_unsound(model, table, LIMIT_PAST);
+    }
+    let moved = limits.moved(variable, shift);
+    let refused = refusal(model, table, moved, variable, shift);
+    if refused != DONE {
+        return unless_unsound(model, table, refused);
+    }
+    write_moved(model, table, moved, variable, shift, out);
+    DONE
+}
+
 // Writes the table with the zero of one variable moved by `shift` into `out`, or refuses and leaves `out` as it was. The moved
 // table answers at a reading less `shift` what this one answers at the reading.
 pub fn move_datum(model: Model, table: &[i64], variable: usize, shift: i64, out: &mut [i64]) -> u64
@@ -143,14 +181,5 @@ pub fn move_datum(model: Model, table: &[i64], variable: usize, shift: i64, out:
     if variable >= shapes::variables(model) {
         return NO_VARIABLE;
     }
-    let unsound = soundness(model, table);
-    if unsound != DONE {
-        return unsound;
-    }
-    let refused = refusal(model, table, variable, shift);
-    if refused != DONE {
-        return refused;
-    }
-    write_moved(model, table, variable, shift, out);
-    DONE
+    move_whole(model, table, variable, shift, out)
 }
