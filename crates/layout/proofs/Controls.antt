@@ -23,6 +23,7 @@ use Rattle.layout.specs.Refusals.{outside, first}
 use Rattle.layout.specs.Publishing.{publishNumber, publishOutput}
 use Rattle.layout.specs.Reading.{readings, inside, values, readNumber, readOutput}
 use Rattle.layout.specs.Moving.{owner, joined, movedLimit, movedLimits, movedBlock, movedTable, movedState, moveLight, moveNumber, moveOutput}
+use Rattle.layout.specs.Many.{manyNumber, manyNumbers, manyOutput}
 use Rattle.layout.specs.Accepted.{ReadAccepted, MoveAccepted}
 
 -- ════ the places of a Cumulus One table
@@ -389,3 +390,44 @@ gtm-moved-in-eta : (take 25 (movedTable gtm 1 (negℤ (pos 2)) madeUp) ≡ neg�
     × (drop 55 (movedTable gtm 1 (negℤ (pos 2)) madeUp) ≡ negℤ (pos 311) ∷ pos 178 ∷ pos 549 ∷ negℤ (pos 62) ∷ negℤ (pos 181) ∷ negℤ (pos 304) ∷ pos 57 ∷ pos 58 ∷ pos 59 ∷ pos 60 ∷ [])
 unfolding sum listed powers below choose number term evaluated given movedNumber replaced movedGroup kindsLength groups laidOut movedLimit movedLimits movedBlock joined movedTable pow one
 gtm-moved-in-eta = (refl, refl)
+
+-- ════ many states
+-- (3, -3), (21, -3), (4, -3) and (3, 1): the second is outside in u, and the fourth in v
+abbrev fourStates : List ℤ
+fourStates = pos 3 ∷ negℤ (pos 3) ∷ pos 21 ∷ negℤ (pos 3) ∷ pos 4 ∷ negℤ (pos 3) ∷ pos 3 ∷ pos 1 ∷ []
+
+many-numbers : manyNumbers smallShape table fourStates (replicate 4 8) (replicate 8 (pos 9)) ≡ 0 ∷ 11 ∷ 0 ∷ 13 ∷ []
+unfolding sum listed powers below term evaluated totalWeight kindsLength every allInRange good groups chosen coefficient withinCap first readNumber manyNumber manyNumbers
+many-numbers = refl
+
+many-output : manyOutput smallShape table fourStates (replicate 4 8) (replicate 8 (pos 9)) ≡ pos 1127 ∷ negℤ (pos 502) ∷ pos 0 ∷ pos 0 ∷ pos 1018 ∷ negℤ (pos 486) ∷ pos 0 ∷ pos 0 ∷ []
+unfolding sum listed powers below term evaluated total totalWeight kindsLength every allInRange good groups chosen coefficient withinCap first values readNumber readOutput joined manyNumber manyOutput pow one
+many-output = refl
+
+-- the numbers given back for m numbers of states, room for n states and an output of o numbers
+unfoldable manyGives : List ℤ → ℕ → ℕ → ℕ → ℕ
+unfolding sum listed powers below term evaluated totalWeight kindsLength every allInRange good groups chosen coefficient withinCap first manyNumber
+manyGives t m n o = manyNumber smallShape t (replicate m (pos 0)) (replicate n 0) (replicate o (pos 0))
+
+-- each line mends what the line before is refused for; two numbers a state and two of its output
+many-order : manyGives [] 5 3 5
+    ∷ manyGives (heavy turned 0 0 0 0) 5 3 6
+    ∷ manyGives (heavy turned 0 0 0 0) 6 3 5
+    ∷ manyGives (heavy turned 0 0 0 0) 6 2 6
+    ∷ manyGives (heavy turned 0 0 0 0) 6 3 6
+    ∷ manyGives (heavy wide 0 0 0 0) 6 3 6
+    ∷ manyGives (heavy wide 20 17 20 17) 6 3 6
+    ∷ manyGives (heavy wide 20 17 20 17) 0 0 0
+    ∷ []
+    ≡ 1 ∷ 2 ∷ 2 ∷ 2 ∷ 3 ∷ 4 ∷ 0 ∷ 0 ∷ []
+unfolding manyGives
+many-order = refl
+
+-- a refusal leaves both
+many-refused : manyNumbers smallShape [] fourStates (8 ∷ []) (pos 9 ∷ []) ≡ 8 ∷ []
+unfolding below kindsLength first manyNumber manyNumbers
+many-refused = refl
+
+many-refused-output : manyOutput smallShape [] fourStates (8 ∷ []) (pos 9 ∷ []) ≡ pos 9 ∷ []
+unfolding below kindsLength first manyNumber manyOutput
+many-refused-output = refl
