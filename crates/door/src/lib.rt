@@ -17,6 +17,7 @@ ghost use Rattle.blocks.specs.Ready.{Valued};
 ghost use Rattle.door.specs.Steps.{positiveZero, wholeIn, stepsOf};
 ghost use Rattle.door.specs.Door.{floats, stepAt, notFinites, outsides, readingFor, answerWith, refusedWith, doorAnswer};
 use layout::Model;
+use layout::cumulus_one::BLOCKS;
 use layout::cumulus_one::VARIABLES;
 use layout::refusals::DONE;
 use layout::refusals::NOT_FINITE;
@@ -25,6 +26,7 @@ use limits::HIGH;
 use limits::LOW;
 use limits::Limits;
 use rounding::Step;
+use tables::reading::write_values;
 use tables::soundness::refusal_of;
 
 // What the door gives back: its number, the reading where that is outside its limits and positive zero otherwise, and the floats of
@@ -138,29 +140,22 @@ fn true_piece(limits: Limits, alpha: f64) -> usize
     HIGH
 }
 
-// The float of one coefficient at whole readings, in the low piece (0) or the high one.
-fn float_at(table: &[i64], block: usize, piece: usize, state: [i64; VARIABLES]) -> f64
-    requires { ⌜ Valued cumulus (now table) block piece state ⌝ }
-    ensures { λ r. ⌜ r ≡ floatOf (total (coefficient cumulus (now (table .entry)) block (pieceOf piece)) (wholes state)) ⌝ }
-{
-    let value = blocks::coefficient_at(Model::Cumulus, table, block, piece, &state);
-    rounding::answer(value)
-}
-
-// The six floats at whole readings.
+// The six floats at whole readings, in the low piece (0) or the high one.
 fn answered(table: &[i64], piece: usize, state: [i64; VARIABLES]) -> Answer
     requires { ⌜ ((b : ℕ) → b < cumulus .blocks → Valued cumulus (now table) b piece state) ⌝ }
     ensures { λ r. ⌜ r ≡ answerWith 0 positiveZero (λ b. floatOf (total (coefficient cumulus (now (table .entry)) b (pieceOf piece)) (wholes state))) ⌝ }
 {
+    let mut values: [i64; BLOCKS] = [0; BLOCKS];
+    write_values(Model::Cumulus, table, piece, &state, &mut values);
     Answer {
         number: DONE,
         reading: 0.0,
-        x: float_at(table, 0, piece, state),
-        y: float_at(table, 1, piece, state),
-        z: float_at(table, 2, piece, state),
-        l: float_at(table, 3, piece, state),
-        m: float_at(table, 4, piece, state),
-        n: float_at(table, 5, piece, state),
+        x: rounding::answer(values[0]),
+        y: rounding::answer(values[1]),
+        z: rounding::answer(values[2]),
+        l: rounding::answer(values[3]),
+        m: rounding::answer(values[4]),
+        n: rounding::answer(values[5]),
     }
 }
 

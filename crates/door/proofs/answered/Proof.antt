@@ -1,50 +1,115 @@
--- `door::answered` meets its contract, field by field. Assumes nothing.
+-- `door::answered` meets its contract, field by field: the values are written by the shared code, and each is answered as a float. Assumes nothing.
+use mathlib.Core.Path.{_≡_, refl, sym, _∙_, ap}
+use Prim.Native.Nat.{ℕ, _<_}
 use native.Mathlib.Omega.{arith}
-use lib.Ieee.{ofBits}
+use borrow.Author.Needs.{needs, sfits-of}
+use lib.Ieee.{Float, ofBits}
+use lib.IntN.{ℤ, pos}
+use lib.ListN.{getD}
+use mir.Syntax.{w64}
+use mir.Val.{SFits, toZ, ofZ}
+use mir.Facts.{toZ-ofZ}
+use Rattle.polynomials.specs.Groups.{total}
+use Rattle.polynomials.proofs.Listed.{getD-listed}
+use Rattle.layout.specs.Shape.{cumulus}
+use Rattle.layout.specs.Blocks.{coefficient, piece}
+use Rattle.layout.specs.Reading.{readings}
+use Rattle.rounding.specs.Answer.{floatOf}
+use Rattle.tables.specs.Ready.{AllValued}
 use Rattle.door.specs.Steps.{positiveZero}
 use Rattle.door.proofs.answered.Statement.{statement}
 use Rattle.door.proofs.answered.Tie as tie
 
-float-at-requires : tie.Need-float-at-requires
-float-at-requires c κs = c .pre 0 (omega arith)
+slice-aggregate-write-values : tie.Need-slice-aggregate-write-values
+slice-aggregate-write-values c = search needs
 
-float-at-requires-2 : tie.Need-float-at-requires-2
-float-at-requires-2 c κs = c .before .pre 1 (omega arith)
+slice-aggregate-write-values-2 : tie.Need-slice-aggregate-write-values-2
+slice-aggregate-write-values-2 c = search needs
 
-float-at-requires-3 : tie.Need-float-at-requires-3
-float-at-requires-3 c κs = c .before .before .pre 2 (omega arith)
+write-values-requires : tie.Need-write-values-requires
+write-values-requires c κs = let a = c .before .before in record { room = refl; state = sym (slice-aggregate-write-values (c .before)); valued = a .pre }
 
-float-at-requires-4 : tie.Need-float-at-requires-4
-float-at-requires-4 c κs = c .before .before .before .pre 3 (omega arith)
+array-copy-out-answer : tie.Need-array-copy-out-answer
+array-copy-out-answer c = search needs
 
-float-at-requires-5 : tie.Need-float-at-requires-5
-float-at-requires-5 c κs = c .before .before .before .before .pre 4 (omega arith)
+answer-requires : tie.Need-answer-requires
+answer-requires c κs = tt
 
-float-at-requires-6 : tie.Need-float-at-requires-6
-float-at-requires-6 c κs = c .before .before .before .before .before .pre 5 (omega arith)
+array-copy-out-answer-2 : tie.Need-array-copy-out-answer-2
+array-copy-out-answer-2 c = search needs
+
+answer-requires-2 : tie.Need-answer-requires-2
+answer-requires-2 c κs = tt
+
+array-copy-out-answer-3 : tie.Need-array-copy-out-answer-3
+array-copy-out-answer-3 c = search needs
+
+answer-requires-3 : tie.Need-answer-requires-3
+answer-requires-3 c κs = tt
+
+array-copy-out-answer-4 : tie.Need-array-copy-out-answer-4
+array-copy-out-answer-4 c = search needs
+
+answer-requires-4 : tie.Need-answer-requires-4
+answer-requires-4 c κs = tt
+
+array-copy-out-answer-5 : tie.Need-array-copy-out-answer-5
+array-copy-out-answer-5 c = search needs
+
+answer-requires-5 : tie.Need-answer-requires-5
+answer-requires-5 c κs = tt
+
+array-copy-out-answer-6 : tie.Need-array-copy-out-answer-6
+array-copy-out-answer-6 c = search needs
+
+answer-requires-6 : tie.Need-answer-requires-6
+answer-requires-6 c κs = tt
+
+-- the values, as they are written
+module _ (c : tie.After-write-values) where
+  abbrev start : tie.Start
+  start = c .before .before .before
+
+  valueAt : ℕ → ℤ
+  valueAt b = total (coefficient cumulus (start .args .table .now) b (piece (start .args .piece))) (readings (start .args .t3))
+
+  -- the float of one
+  answer-is : (b : ℕ) → b < cumulus .blocks → (f : Float) → f ≡ floatOf (toZ w64 (ofZ w64 (getD (c .write-values .last .1 .1 .1 .1 .0) b (pos 0)))) → SFits w64 (getD (c .write-values .last .1 .1 .1 .1 .0) b (pos 0)) → f ≡ floatOf (valueAt b)
+  unfolding valueAt
+  answer-is b h f e k = e ∙ ap floatOf (toZ-ofZ k ∙ ap (λ l. getD l b (pos 0)) (c .write-values .ensures) ∙ getD-listed (cumulus .blocks) _ b (pos 0) h)
 
 returns : tie.Need-returns
-unfolding ofBits
-returns c = λ i.
+unfolding ofBits valueAt
+returns c =
+    let w = c .before .before .before .before .before .before .before .before .before .before .before .before .before in λ i.
     record {
       number = 0;
       reading = positiveZero;
-      x = c .before .before .before .before .before .float-at .ensures i;
-      y = c .before .before .before .before .float-at2 .ensures i;
-      z = c .before .before .before .float-at3 .ensures i;
-      l = c .before .before .float-at4 .ensures i;
-      m = c .before .float-at5 .ensures i;
-      n = c .float-at6 .ensures i;
+      x = answer-is w 0 (omega arith) _ (c .before .before .before .before .before .before .before .before .before .before .answer .ensures) (sfits-of (c .before .before .before .before .before .before .before .before .before .before .before .answer-arg .given)) i;
+      y = answer-is w 1 (omega arith) _ (c .before .before .before .before .before .before .before .before .answer2 .ensures) (sfits-of (c .before .before .before .before .before .before .before .before .before .answer-arg2 .given)) i;
+      z = answer-is w 2 (omega arith) _ (c .before .before .before .before .before .before .answer3 .ensures) (sfits-of (c .before .before .before .before .before .before .before .answer-arg3 .given)) i;
+      l = answer-is w 3 (omega arith) _ (c .before .before .before .before .answer4 .ensures) (sfits-of (c .before .before .before .before .before .answer-arg4 .given)) i;
+      m = answer-is w 4 (omega arith) _ (c .before .before .answer5 .ensures) (sfits-of (c .before .before .before .answer-arg5 .given)) i;
+      n = answer-is w 5 (omega arith) _ (c .answer6 .ensures) (sfits-of (c .before .answer-arg6 .given)) i;
     }
 
 pub answered-spec : {M : Type 1} → statement M
 answered-spec =
     tie.close
     (tie.spec
-    float-at-requires
-    float-at-requires-2
-    float-at-requires-3
-    float-at-requires-4
-    float-at-requires-5
-    float-at-requires-6
+    slice-aggregate-write-values
+    slice-aggregate-write-values-2
+    write-values-requires
+    array-copy-out-answer
+    answer-requires
+    array-copy-out-answer-2
+    answer-requires-2
+    array-copy-out-answer-3
+    answer-requires-3
+    array-copy-out-answer-4
+    answer-requires-4
+    array-copy-out-answer-5
+    answer-requires-5
+    array-copy-out-answer-6
+    answer-requires-6
     returns)
