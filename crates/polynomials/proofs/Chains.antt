@@ -10,7 +10,6 @@ use mathlib.Core.Path.{_≡_, refl, _∙_, ap}
 use mathlib.Core.List.{List}
 use Prim.Native.Nat.{ℕ, _+_, _≤_, _<_}
 use native.Mathlib.Nat as N
-use native.Mathlib.Decide.{decLt}
 use native.Mathlib.Omega.{arith}
 use lib.IntN.{ℤ, pos, _*ℤ_, zero-*ℤ}
 use lib.ListN.{length, getD, List·getD-eq-default}
@@ -28,9 +27,9 @@ chain w b k = place (own w k b) (own w b k)
 abbrev pub gap : Variable → ℕ → ℕ
 gap w n = own w (n + 1) (n + 2)
 
-pub gap-near : (w : Variable) (n : ℕ) → (1 ≤ gap w n) × (gap w n ≤ n + 2)
-gap-near First n = (omega arith, omega arith)
-gap-near Second n = (omega arith, omega arith)
+pub gap-near : (w : Variable) (n : ℕ) {step : ℕ} → step ≡ gap w n → (1 ≤ step) × (step ≤ n + 2)
+gap-near First n e = (omega arith, omega arith)
+gap-near Second n e = (omega arith, omega arith)
 
 pub chain-next : (w : Variable) (b k n : ℕ) → n ≡ b + k → chain w b (k + 1) ≡ chain w b k + gap w n
 chain-next First b k n e = omega (arith, place-first k b)
@@ -45,12 +44,8 @@ chain-rises First b k c j h l = place-rises k b j c l h
 chain-rises Second b k c j h l = place-rises b k c j h l
 
 pub chain-degree : (w : Variable) (n b k : ℕ) → chain w b k < below n → b + k < n
-chain-degree w n b k h = pick w h (decLt (b + k) n)
-  where
-    pick : (w : Variable) → chain w b k < below n → Dec (b + k < n) → b + k < n
-    pick w h (yes l) = l
-    pick First h (no l) = absurd (omega (arith, place-past n k b (omega arith)))
-    pick Second h (no l) = absurd (omega (arith, place-past n b k (omega arith)))
+chain-degree First n b k h = N.lt-of-not-le (λ l. omega (arith, place-past n k b (omega arith)))
+chain-degree Second n b k h = N.lt-of-not-le (λ l. omega (arith, place-past n b k l))
 
 pub chain-far : (w : Variable) (b k : ℕ) → b + k ≤ chain w b k
 chain-far First b k = omega (arith, degree-place k b)

@@ -62,7 +62,7 @@ fn other(which: Variable) -> Variable
     }
 }
 
-// How many places further on than a number of the total degree the one stands that has one power more of the variable.
+// How many places after a number of this total degree the one with one power more of the variable stands.
 fn gap(degree: usize, which: Variable) -> usize
     requires { ⌜ degree + 2 < 2 ^ 64 ⌝ }
     ensures { λ r. ⌜ r ≡ own which (degree + 1) (degree + 2) ⌝ }
@@ -99,8 +99,8 @@ fn moved_number(
     sum
 }
 
-// The group moved by s in one variable, written into `out`, by the powers of v + s multiplied out: chain by chain, each of the numbers
-// that differ only in the power of the variable.
+// The group moved by s in one variable, written into `out`, by the powers of v + s multiplied out. It goes chain by chain: the numbers that
+// differ only in the power of the variable, beside the power 0 of the other, beside its power 1, and so on.
 pub fn move_group(from: &[i64], out: &mut [i64], which: Variable, rows: &[[i64; 5]; 5])
     ghost { ℤ }
     requires { λ s. ⌜ shiftIn (now rows) ≡ s ⌝ }

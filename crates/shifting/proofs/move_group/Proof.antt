@@ -5,14 +5,12 @@ use mathlib.Core.Path.{_≡_, refl, sym, _∙_, ap, ap₂}
 use mathlib.Core.List.{List}
 use Prim.Native.Nat.{ℕ, _+_, _-_, _≤_, _<_}
 use native.Mathlib.Nat as N
-use native.Mathlib.Decide.{ℕ-discrete, decLt}
+use native.Mathlib.Decide.{ℕ-discrete}
 use native.Mathlib.Omega.{arith}
 use borrow.Author.Needs.{needs, sfits-of}
 use lib.IntN.{ℤ, pos}
 use lib.ListN.{length, getD, set, length-set}
 use lib.Seq.{getD-set-same, getD-set-other}
-use mir.Syntax.{w64}
-use mir.Val.{toZ, ofZ}
 use mir.Facts.{toZ-ofZ}
 use Rattle.polynomials.specs.Numbers.{ints}
 use Rattle.polynomials.specs.Order.{powers, below}
@@ -55,6 +53,7 @@ module _ (w : Variable) (s : ℤ) (l : List ℤ) where
   unfolding movedAt
   number-there b p = let e = powers-place (own w p b) (own w b p) in ap₂ (movedNumber ints w s l) (sym (e .0)) (sym (e .1))
 
+  -- a number is written, and the loop goes on to the next of the chain
   more : (out : List ℤ) (b p at step : ℕ) (v : ℤ) → at < length l → Stands out b p at → step ≡ gap w (b + p) → v ≡ movedAt (chain w b p) → Stands (set out at v) b (p + 1) (at + step)
   unfolding Filled
   more out b p at step v h t g e = record {
@@ -65,42 +64,32 @@ module _ (w : Variable) (s : ℤ) (l : List ℤ) where
     where
       pick : (k : ℕ) → k < length l → others w k ≤ b → (b ≤ others w k → mine w k < p + 1) → Dec (k ≡ at) → getD (set out at v) k (pos 0) ≡ movedAt k
       pick k i a c (yes z) = rw z (getD-set-same out at v (pos 0) (omega (arith, t .long)) ∙ e ∙ ap movedAt (sym (t .here)))
-      pick k i a c (no z) = getD-set-other out at k v (pos 0) z ∙ t .filled k i a (λ d. last d (decLt (mine w k) p))
-        where
-          last : b ≤ others w k → Dec (mine w k < p) → mine w k < p
-          last d (yes y) = y
-          last d (no y) = absurd (z (sym (chain-powers w k) ∙ ap₂ (chain w) (omega arith) (omega (arith, c d)) ∙ sym (t .here)))
+      pick k i a c (no z) =
+          getD-set-other out at k v (pos 0) z
+          ∙ t .filled k i a (λ d. N.lt-of-not-le (λ y. z (sym (chain-powers w k) ∙ ap₂ (chain w) (omega arith) (omega (arith, c d)) ∙ sym (t .here))))
 
   -- a place that is not passed is not before the one where the loop stands
   ahead : (b p k : ℕ) → b ≤ others w k → p ≤ mine w k → chain w b p ≤ k
   ahead b p k h i = omega (arith, chain-rises w b p (others w k) (mine w k) h i, chain-powers w k)
 
-  line : (out : List ℤ) (b p at start step : ℕ) → length l ≤ at → Stands out b p at → start ≡ chain w b 0 → step ≡ gap (own w Second First) b → Stands out (b + 1) 0 (start + step)
+  -- a chain has left the group, and the loop goes on to the next chain
+  next-chain : (out : List ℤ) (b p at start step : ℕ) → length l ≤ at → Stands out b p at → start ≡ chain w b 0 → step ≡ gap (own w Second First) b → Stands out (b + 1) 0 (start + step)
   unfolding Filled
-  line out b p at start step h t e g = record {
+  next-chain out b p at start step h t e g = record {
     long = t .long;
     here = omega (arith, chain-beside w b);
-    filled = λ k i a c. t .filled k i (same k c (decLt b (others w k))) (λ d. last k i d (decLt (mine w k) p));
+    filled = λ k i a c.
+        let low : others w k < b + 1 = N.lt-of-not-le (λ d. omega (arith, c d)) in
+        t .filled k i (omega arith) (λ d. N.lt-of-not-le (λ y. omega (arith, ahead b p k d y, t .here)));
   }
-    where
-      same : (k : ℕ) → (b + 1 ≤ others w k → mine w k < 0) → Dec (b < others w k) → others w k ≤ b
-      same k c (yes y) = absurd (omega (arith, c (omega arith)))
-      same k c (no y) = omega arith
 
-      last : (k : ℕ) → k < length l → b ≤ others w k → Dec (mine w k < p) → mine w k < p
-      last k i d (yes y) = y
-      last k i d (no y) = absurd (omega (arith, ahead b p k d (omega arith), t .here))
-
+  -- the first place of a chain is past the group
   full : (out : List ℤ) (b at : ℕ) → length l ≤ at → Stands out b 0 at → out ≡ moved w s l
   unfolding Filled movedAt replaced
-  full out b at h t = sym (listed-is (pos 0) (length l) movedAt out (t .long) (λ k i. t .filled k i (below-b k i (decLt (others w k) b)) (λ d. absurd (past k i d))))
-    where
-      past : (k : ℕ) → k < length l → b ≤ others w k → ⊥
-      past k i d = omega (arith, ahead b 0 k d (omega arith), t .here)
-
-      below-b : (k : ℕ) → k < length l → Dec (others w k < b) → others w k ≤ b
-      below-b k i (yes y) = omega arith
-      below-b k i (no y) = absurd (past k i (omega arith))
+  full out b at h t =
+      sym (listed-is (pos 0) (length l) movedAt out (t .long) (λ k i.
+      let low : others w k < b = N.lt-of-not-le (λ d. omega (arith, ahead b 0 k d (omega arith), t .here)) in
+      t .filled k i (omega arith) (λ d. absurd (omega arith))))
 
 abbrev Inv-loop2 : tie.InvT-loop2
 Inv-loop2 from out₀ which rows beside start at₀ p₀ out at p = Stands which (shiftIn rows) from out beside p at
@@ -141,7 +130,7 @@ module _ (c : tie.In-loop2 Inv-loop2 μ-loop2 Inv-loop μ-loop) where
   unfolding below
   degree = chain-degree w 5 b p (omega (arith, stands .here, c .loop2-test .taken, start .pre .1 .0 .few))
 
--- ---- where it starts
+-- ---- at the first place of a chain
 first-degree : (c : tie.In-loop Inv-loop2 μ-loop2 Inv-loop μ-loop) → c .before .loop .beside < 5
 unfolding below
 first-degree c =
@@ -178,20 +167,17 @@ add-gap c = omega (arith, degree (c .before))
 gap-requires : tie.Need-gap-requires Inv-loop2 μ-loop2 Inv-loop μ-loop
 gap-requires c κs = omega (arith, degree (c .before))
 
-gap-small : (c : tie.After-gap Inv-loop2 μ-loop2 Inv-loop μ-loop) → (1 ≤ c .gap .result) × (c .gap .result < 7)
-gap-small c =
-    let a = c .before .before in
-    let near = gap-near (w a) (b a + p a) in
-    (omega (arith, c .gap .ensures, near .0), omega (arith, c .gap .ensures, near .1, degree a))
+near : (c : tie.After-gap Inv-loop2 μ-loop2 Inv-loop μ-loop) → (1 ≤ c .gap .result) × (c .gap .result ≤ b (c .before .before) + p (c .before .before) + 2)
+near c = let a = c .before .before in gap-near (w a) (b a + p a) (c .gap .ensures)
 
 add-at : tie.Need-add-at Inv-loop2 μ-loop2 Inv-loop μ-loop
-add-at c = omega (arith, gap-small c .1, c .before .before .loop2-test .taken, start (c .before .before) .pre .1 .0 .few)
+add-at c = omega (arith, near c .1, degree (c .before .before), c .before .before .loop2-test .taken, start (c .before .before) .pre .1 .0 .few)
 
 add-p : tie.Need-add-p Inv-loop2 μ-loop2 Inv-loop μ-loop
 add-p c = omega (arith, degree (c .before .before))
 
 loop2-less : tie.Need-loop2-less Inv-loop2 μ-loop2 Inv-loop μ-loop
-loop2-less c = omega (arith, gap-small c .0, c .before .before .loop2-test .taken)
+loop2-less c = omega (arith, near c .0, c .before .before .loop2-test .taken)
 
 loop2-again : tie.Need-loop2-again Inv-loop2 μ-loop2 Inv-loop μ-loop
 loop2-again c =
@@ -209,38 +195,36 @@ gap-requires-2 c κs = omega (arith, first-degree (c .before .before .before))
 
 -- ---- from a chain to the next
 module _ (c : tie.After-gap2 Inv-loop2 μ-loop2 Inv-loop μ-loop) where
-  abbrev chain-left : tie.After-loop2 Inv-loop2 μ-loop2 Inv-loop μ-loop
-  chain-left = c .before .before
+  abbrev ended : tie.After-loop2 Inv-loop2 μ-loop2 Inv-loop μ-loop
+  ended = c .before .before
 
-  abbrev line-in : tie.In-loop Inv-loop2 μ-loop2 Inv-loop μ-loop
-  line-in = chain-left .before .before
+  abbrev begun : tie.In-loop Inv-loop2 μ-loop2 Inv-loop μ-loop
+  begun = ended .before .before
 
   abbrev entry : tie.Start Inv-loop2 μ-loop2 Inv-loop μ-loop
-  entry = line-in .before .before
+  entry = begun .before .before
 
-  gap-is : c .gap2 .result ≡ gap (own (entry .args .which) Second First) (line-in .before .loop .beside)
-  gap-is = c .gap2 .ensures ∙ ap (λ v. gap v (line-in .before .loop .beside)) (c .before .other .ensures)
+  gap-is : c .gap2 .result ≡ gap (own (entry .args .which) Second First) (begun .before .loop .beside)
+  gap-is = c .gap2 .ensures ∙ ap (λ v. gap v (begun .before .loop .beside)) (c .before .other .ensures)
 
-  small : (1 ≤ c .gap2 .result) × (c .gap2 .result < 7)
-  small =
-      let near = gap-near (own (entry .args .which) Second First) (line-in .before .loop .beside) in
-      (omega (arith, gap-is, near .0), omega (arith, gap-is, near .1, first-degree line-in))
+  next-near : (1 ≤ c .gap2 .result) × (c .gap2 .result ≤ begun .before .loop .beside + 2)
+  next-near = gap-near (own (entry .args .which) Second First) (begun .before .loop .beside) gap-is
 
 add-start : tie.Need-add-start Inv-loop2 μ-loop2 Inv-loop μ-loop
-add-start c = omega (arith, small c .1, line-in c .loop-test .taken, entry c .pre .1 .0 .few)
+add-start c = omega (arith, next-near c .1, first-degree (begun c), begun c .loop-test .taken, entry c .pre .1 .0 .few)
 
 add-beside : tie.Need-add-beside Inv-loop2 μ-loop2 Inv-loop μ-loop
-add-beside c = omega (arith, first-degree (line-in c))
+add-beside c = omega (arith, first-degree (begun c))
 
 loop-less : tie.Need-loop-less Inv-loop2 μ-loop2 Inv-loop μ-loop
-loop-less c = omega (arith, small c .0, line-in c .loop-test .taken)
+loop-less c = omega (arith, next-near c .0, begun c .loop-test .taken)
 
 loop-again : tie.Need-loop-again Inv-loop2 μ-loop2 Inv-loop μ-loop
 loop-again c =
     let a = entry c .args in
-    let o = chain-left c .before .loop2 in
-    let n = line-in c .before .loop in
-    line (a .which) (shiftIn (a .rows .now)) (a .from .now) (o .out) (n .beside) (o .p) (o .at) (n .start) (c .gap2 .result) (chain-left c .loop2-test .left) (o .inv) (n .inv .here) (gap-is c)
+    let o = ended c .before .loop2 in
+    let n = begun c .before .loop in
+    next-chain (a .which) (shiftIn (a .rows .now)) (a .from .now) (o .out) (n .beside) (o .p) (o .at) (n .start) (c .gap2 .result) (ended c .loop2-test .left) (o .inv) (n .inv .here) (gap-is c)
 
 same-length : tie.Need-same-length Inv-loop2 μ-loop2 Inv-loop μ-loop
 same-length c = c .before .loop .inv .long ∙ sym (c .before .before .pre .1 .1)
