@@ -5,8 +5,6 @@
 --   below-is, below-highest      how many stand before a degree, as the code works it out; before all degrees past the highest
 --   degree-place                 a place is at least the total degree that stands there
 --   below-mono                   more degrees have more numbers
---   degree-powers, few-powers    below `below n` stand total degrees below n; so they do in a group that the code serves
---   powers-more                  what stands at the next place
 --   next-degree, next-same       the step from one place to the next, as the code takes it
 use mathlib.Core.Path.{_≡_, refl, sym, _∙_, ap}
 use Prim.Native.Nat.{ℕ, zero, suc, _+_, _*_, _-_, _/_, _≤_, _<_}
@@ -88,20 +86,6 @@ pub powers-degree : (n q : ℕ) → q ≤ n → (powers (below n + q) .first ≡
 powers-degree n q h =
     let e : n - q + q ≡ n = omega arith in
     place-inj (powers (below n + q) .first) (powers (below n + q) .second) (n - q) q (place-powers (below n + q) ∙ ap (λ m. below m + q) (sym e))
-
-pub degree-powers : (n k : ℕ) → k < below n → powers k .first + powers k .second < n
-degree-powers n k h = pick (decLt (powers k .first + powers k .second) n)
-  where
-    pick : Dec (powers k .first + powers k .second < n) → powers k .first + powers k .second < n
-    pick (yes b) = b
-    pick (no b) = absurd (omega (arith, place-past n (powers k .first) (powers k .second) (omega arith), place-powers k))
-
-pub few-powers : (w : Powers) (k n : ℕ) → n ≤ size highestDegree → k < n → w ≡ powers k → w .first + w .second ≤ highestDegree
-few-powers w k n few h e = rw e (omega (arith, degree-powers (suc highestDegree) k (N.lt-of-lt-of-le h few)))
-
-pub powers-more : (w : Powers) (k : ℕ) → w ≡ powers k → next w ≡ powers (k + 1)
-unfolding powers
-powers-more w k e = ap next e ∙ ap powers (sym (add-one k))
 
 -- the step as the code takes it
 module _ (w : Powers) where
