@@ -3,6 +3,8 @@ use answers::Reading;
 use layout::cumulus_one::TABLE;
 use libc::STDIN_FILENO;
 use libc::STDOUT_FILENO;
+use streams::End;
+use streams::Outcome;
 ghost use mathlib.Core.Path.{_≡_};
 ghost use mathlib.Core.Bool.{true};
 ghost use Prim.Native.Nat.{_≤_};
@@ -27,12 +29,13 @@ fn answer_piece(table: &[i64], reading: Reading, piece: &[u8], out: &mut [u8]) -
         let fed = answers::feed(table, current, &piece[at..], out);
         let from = 0;
         let put = fed.put;
-        if !io::write_all(STDOUT_FILENO, &out[from..put]) {
+        let wrote = streams::write(STDOUT_FILENO, &out[from..put]);
+        let Outcome::Moved(_) = wrote else {
             return Answered {
                 reading: current,
                 written: false,
             };
-        }
+        };
         current = fed.reading;
         at += fed.taken;
     }
@@ -42,8 +45,21 @@ fn answer_piece(table: &[i64], reading: Reading, piece: &[u8], out: &mut [u8]) -
     }
 }
 
+// Answers a last line that no newline ends.
+fn finish(table: &[i64], reading: Reading, out: &mut [u8]) -> End
+    requires { ⌜ longest ≤ length (now out) ⌝ }
+{
+    let from = 0;
+    let put = answers::finish(table, reading, out);
+    let wrote = streams::write(STDOUT_FILENO, &out[from..put]);
+    let Outcome::Moved(_) = wrote else {
+        return End::Unwritten;
+    };
+    End::Done
+}
+
 // Up to the end of the input. A proved loop has to end, so it counts its turns down from a number that no run uses up.
-fn run(table: &[i64], buf: &mut [u8], out: &mut [u8])
+fn run(table: &[i64], buf: &mut [u8], out: &mut [u8]) -> End
     requires { ⌜ longest ≤ length (now out) ⌝ }
 {
     let mut reading = Reading::fresh();
@@ -51,19 +67,20 @@ fn run(table: &[i64], buf: &mut [u8], out: &mut [u8])
     while turns > 0 {
         turns -= 1;
         let from = 0;
-        let got = libc::read(STDIN_FILENO, buf);
-        let n = io::count(got, buf);
+        let got = streams::read(STDIN_FILENO, buf);
+        let Outcome::Moved(n) = got else {
+            return End::Unread;
+        };
         if n == 0 {
-            let put = answers::finish(table, reading, out);
-            io::write_all(STDOUT_FILENO, &out[from..put]);
-            return;
+            return finish(table, reading, out);
         }
         let answered = answer_piece(table, reading, &buf[from..n], out);
         if !answered.written {
-            return;
+            return End::Unwritten;
         }
         reading = answered.reading;
     }
+    End::Unread
 }
 
 fn main() {
@@ -71,5 +88,10 @@ fn main() {
     cumulus::publish(&mut table);
     let mut buf = io::large_buffer();
     let mut out = io::large_buffer();
-    run(&table, &mut buf, &mut out);
+    let end = run(&table, &mut buf, &mut out);
+    streams::tell(
+        end,
+        b"trimcard: the input cannot be read",
+        b"trimcard: the answers cannot be written",
+    );
 }

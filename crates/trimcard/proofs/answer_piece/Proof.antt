@@ -50,17 +50,20 @@ part-feed-end c = search needs
 feed-requires : tie.Need-feed-requires Inv-loop μ-loop
 feed-requires c κs = search needs
 
-sub-write-all : tie.Need-sub-write-all Inv-loop μ-loop
-sub-write-all c = search needs
+sub-write : tie.Need-sub-write Inv-loop μ-loop
+sub-write c = search needs
 
-part-write-all-start : tie.Need-part-write-all-start Inv-loop μ-loop
-part-write-all-start c = search needs
+part-write-start : tie.Need-part-write-start Inv-loop μ-loop
+part-write-start c = search needs
 
-part-write-all-end : tie.Need-part-write-all-end Inv-loop μ-loop
-part-write-all-end c = let f = c .before .before .before .feed in omega (arith, f .ensures .room, f .kept .1 .1 .1 .0)
+part-write-end : tie.Need-part-write-end Inv-loop μ-loop
+part-write-end c = let f = c .before .before .before .feed in omega (arith, f .ensures .room, f .kept .1 .1 .1 .0)
 
-write-all-requires : tie.Need-write-all-requires Inv-loop μ-loop
-write-all-requires c κs = search needs
+write-requires : tie.Need-write-requires Inv-loop μ-loop
+write-requires c κs = search needs
+
+enum-told : tie.Need-enum-told Inv-loop μ-loop
+enum-told c = search needs
 
 same-length : tie.Need-same-length Inv-loop μ-loop
 same-length c =
@@ -75,19 +78,19 @@ add-at c = search needs
 
 loop-less : tie.Need-loop-less Inv-loop μ-loop
 loop-less c =
-    let start = c .before .before .before .before .before .before .before .before .before .before .before .before .before .before .before in
-    let l = c .before .before .before .before .before .before .before .before .before .before .before .before .loop in
-    let f = c .before .before .before .before .before .before .before .before .feed in
-    let h = c .before .before .before .before .before .before .before .before .before .before .before .loop-test .taken in
+    let start = c .before .before .before .before .before .before .before .before .before .before .before .before .before .before .before .before in
+    let l = c .before .before .before .before .before .before .before .before .before .before .before .before .before .loop in
+    let f = c .before .before .before .before .before .before .before .before .before .feed in
+    let h = c .before .before .before .before .before .before .before .before .before .before .before .before .loop-test .taken in
     let left = ap length (rest (l .at) (start .args .piece .now)) ∙ length-drop (l .at) (start .args .piece .now) in
     let some = progress (f .result) (f .ensures) (omega (arith, left, h)) (omega (arith, start .pre, l .inv .1)) (f .result .taken) refl in
     omega (arith, some, left, f .ensures .within)
 
 loop-again : tie.Need-loop-again Inv-loop μ-loop
 loop-again c =
-    let a = c .before .before .before .before .before .before .before .before .before .before .before .before .before .before .before .args in
-    let l = c .before .before .before .before .before .before .before .before .before .before .before .before .loop in
-    let f = c .before .before .before .before .before .before .before .before .feed in
+    let a = c .before .before .before .before .before .before .before .before .before .before .before .before .before .before .before .before .args in
+    let l = c .before .before .before .before .before .before .before .before .before .before .before .before .before .loop in
+    let f = c .before .before .before .before .before .before .before .before .before .feed in
     let bytes = take (f .result .taken) (drop (l .at) (a .piece .now)) in
     let part = rest (l .at) (a .piece .now) in (
       omega (arith, ap length part ∙ length-drop (l .at) (a .piece .now), f .ensures .within, l .inv .0),
@@ -118,10 +121,11 @@ answer-piece-spec =
     part-feed-start
     part-feed-end
     feed-requires
-    sub-write-all
-    part-write-all-start
-    part-write-all-end
-    write-all-requires
+    sub-write
+    part-write-start
+    part-write-end
+    write-requires
+    enum-told
     same-length
     returns
     add-at
