@@ -20,6 +20,9 @@ shared-slice-read-byte c = search needs
 take-byte-requires : tie.Need-take-byte-requires Inv-loop μ-loop
 take-byte-requires c κs = search needs
 
+returns : tie.Need-returns Inv-loop μ-loop
+returns c = search needs
+
 add-k : tie.Need-add-k Inv-loop μ-loop
 add-k c = search needs
 
@@ -29,8 +32,8 @@ loop-less c = search needs
 loop-again : tie.Need-loop-again Inv-loop μ-loop
 loop-again c = search needs
 
-returns : tie.Need-returns Inv-loop μ-loop
-returns c = search needs
+returns-2 : tie.Need-returns-2 Inv-loop μ-loop
+returns-2 c = search needs
 
 pub take-piece-spec : {M : Type 1} → statement M
 take-piece-spec =
@@ -41,7 +44,8 @@ take-piece-spec =
     loop-holds
     shared-slice-read-byte
     take-byte-requires
+    returns
     add-k
     loop-less
     loop-again
-    returns)
+    returns-2)
