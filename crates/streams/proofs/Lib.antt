@@ -1,1 +1,2 @@
+pub mod Controls
 pub mod Tried

@@ -19,13 +19,10 @@ fn comes_to(answer: isize, error: i32) -> Outcome
     if answer >= 0 {
         return Outcome::Moved(answer as usize);
     }
-    if error == EINTR {
-        return Outcome::Again;
+    match error {
+        EINTR | EAGAIN => Outcome::Again,
+        _ => Outcome::Failed,
     }
-    if error == EAGAIN {
-        return Outcome::Again;
-    }
-    Outcome::Failed
 }
 
 // Reads once, as often as it takes: some bytes to the start of buf, none at the end of the input, or it fails. A proved loop has to end,

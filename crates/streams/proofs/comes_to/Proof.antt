@@ -2,14 +2,17 @@
 -- Assumes nothing.
 use mathlib.Core.Path.{_≡_, refl, sym, ap, ap₂, subst, _∙_}
 use mathlib.Core.Bool.{true, false, cond, _||_}
+use mathlib.Core.Logic.{inl, inr}
+use mathlib.Core.List.{[], _∷_}
 use Prim.Native.Nat.{ℕ}
 use lib.Dec.{T, eqb}
 use lib.IntN.{ℤ, pos, negsuc, natAbs}
 use lib.Signed.{leZ, nonNeg}
 use mir.Syntax.{w32, w64}
-use mir.Val.{toZ, ofZ}
+use mir.Val.{SFits, toZ, ofZ}
 use mir.Facts.{toZ-ofZ, fits-natAbs, sfits-toZ, fits-ofZ}
 use native.Mathlib.Omega.{arith}
+use types.Run.{OneOf}
 use borrow.Author.Tests.{leb-false, ne-eqb}
 use Rattle.streams.specs.declared.Outcome.{Outcome}
 use Rattle.streams.specs.declared.Outcome.the-variants.{Moved, Again, Failed}
@@ -29,9 +32,17 @@ below : (z error : ℤ) → leZ (pos 0) z ≡ false → outcomeOf z error ≡ co
 below (pos n) error e = absurd (omega (arith, leb-false 0 n e))
 below (negsuc n) error e = refl
 
-lasts : (error : ℤ) → (error ≡ pos 4 → ⊥) → (error ≡ pos 11 → ⊥) → passes error ≡ false
-lasts (pos n) a b = ap₂ _||_ (ne-eqb n 4 (λ e. a (ap pos e))) (ne-eqb n 11 (λ e. b (ap pos e)))
-lasts (negsuc n) a b = refl
+-- the bits of the errors that pass
+abbrev Passing : ℤ → Type 0
+Passing error = OneOf (4 ∷ 11 ∷ []) (ofZ w32 error)
+
+passing : (error : ℤ) → SFits w32 error → Passing error → passes error ≡ true
+passing error f (inl e) = ap passes (sym (toZ-ofZ f) ∙ ap (toZ w32) e)
+passing error f (inr e) = ap passes (sym (toZ-ofZ f) ∙ ap (toZ w32) e)
+
+lasting : (error : ℤ) → (Passing error → ⊥) → passes error ≡ false
+lasting (pos n) h = ap₂ _||_ (ne-eqb n 4 (λ e. h (inl (ap (λ k. ofZ w32 (pos k)) e)))) (ne-eqb n 11 (λ e. h (inr (ap (λ k. ofZ w32 (pos k)) e))))
+lasting (negsuc n) h = refl
 
 -- an answer below 0, and what its error says
 failing : (answer : ℤ) {z : ℤ} → z ≡ answer → leZ (pos 0) z ≡ false → (error : ℤ) {b : _} → passes error ≡ b → cond b Again Failed ≡ outcomeOf answer error
@@ -48,20 +59,12 @@ returns c =
 returns-2 : tie.Need-returns-2
 returns-2 c =
     let s = c .before .before in
-    failing (s .args .answer) (toZ-ofZ (s .fits .answer)) (c .before .if1 .left) (s .args .error)
-    (ap passes (sym (toZ-ofZ (s .fits .error)) ∙ ap (toZ w32) (c .if2 .taken)))
+    failing (s .args .answer) (toZ-ofZ (s .fits .answer)) (c .before .if1 .left) (s .args .error) (passing (s .args .error) (s .fits .error) (c .match .keys1))
 
 returns-3 : tie.Need-returns-3
 returns-3 c =
-    let s = c .before .before .before in
-    failing (s .args .answer) (toZ-ofZ (s .fits .answer)) (c .before .before .if1 .left) (s .args .error)
-    (ap passes (sym (toZ-ofZ (s .fits .error)) ∙ ap (toZ w32) (c .if3 .taken)))
-
-returns-4 : tie.Need-returns-4
-returns-4 c =
-    let s = c .before .before .before in
-    failing (s .args .answer) (toZ-ofZ (s .fits .answer)) (c .before .before .if1 .left) (s .args .error)
-    (lasts (s .args .error) (λ e. c .before .if2 .left (ap (ofZ w32) e)) (λ e. c .if3 .left (ap (ofZ w32) e)))
+    let s = c .before .before in
+    failing (s .args .answer) (toZ-ofZ (s .fits .answer)) (c .before .if1 .left) (s .args .error) (lasting (s .args .error) (c .match .rest .1))
 
 pub comes-to-spec : {M : Type 1} → statement M
-comes-to-spec = tie.close (tie.spec cast-t4 returns returns-2 returns-3 returns-4)
+comes-to-spec = tie.close (tie.spec cast-t4 returns returns-2 returns-3)
