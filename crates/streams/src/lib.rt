@@ -1,4 +1,5 @@
-// Reading and writing that try again where a signal interrupted the call, or where it would have had to wait.
+// Reading and writing that try again where a signal interrupted the call, or where it would have had to wait. Of C's calls none is
+// declared that waits until a stream is ready, so before the next try the processor is left to whoever else wants it.
 use libc::EAGAIN;
 use libc::EINTR;
 ghost use mathlib.Core.Path.{_≡_};
@@ -25,8 +26,8 @@ fn comes_to(answer: isize, error: i32) -> Outcome
     }
 }
 
-// Reads once, as often as it takes: some bytes to the start of buf, none at the end of the input, or it fails. A proved loop has to end,
-// so it counts its turns down from a number that no run uses up.
+// Reads some bytes to the start of buf, none at the end of the input, or fails. A proved loop has to end, so it counts its turns down
+// from a number that no run uses up.
 pub fn read(fd: i32, buf: &mut [u8]) -> Outcome
     ensures { λ r. ⌜ Got (length (now (buf .entry))) r ⌝ }
 {
@@ -43,7 +44,7 @@ pub fn read(fd: i32, buf: &mut [u8]) -> Outcome
     Outcome::Failed
 }
 
-// Writes once, as often as it takes: some of buf's first bytes, or it fails.
+// Writes some of buf's first bytes, or fails.
 fn write_some(fd: i32, buf: &[u8]) -> Outcome
     ensures { λ r. ⌜ Got (length (now (buf .entry))) r ⌝ }
 {
@@ -60,7 +61,7 @@ fn write_some(fd: i32, buf: &[u8]) -> Outcome
     Outcome::Failed
 }
 
-// Writes all of buf, or fails where a write does, or takes nothing.
+// Writes all of buf, or fails where a write does or takes nothing.
 pub fn write(fd: i32, buf: &[u8]) -> Outcome
     ensures { λ r. ⌜ Put (length (now (buf .entry))) r ⌝ }
 {
