@@ -52,9 +52,9 @@ fn write_some(fd: i32, buf: &[u8]) -> Outcome
     while turns > 0 {
         turns -= 1;
         let answer = libc::write(fd, buf);
-        let put = comes_to(answer, os::errno());
-        let Outcome::Again = put else {
-            return put;
+        let took = comes_to(answer, os::errno());
+        let Outcome::Again = took else {
+            return took;
         };
         libc::sched_yield();
     }
@@ -69,7 +69,7 @@ pub fn write(fd: i32, buf: &[u8]) -> Outcome
     while done < buf.len() {
         let put = write_some(fd, &buf[done..]);
         let Outcome::Moved(n) = put else {
-            return Outcome::Failed;
+            return put;
         };
         if n == 0 {
             return Outcome::Failed;

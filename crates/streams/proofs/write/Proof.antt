@@ -1,15 +1,18 @@
 -- `streams::write` meets its contract. The loop's invariant: no more was written than there is. Each turn writes some of the rest.
 -- Assumes nothing.
 use mathlib.Core.Path.{_≡_, ap, subst, _∙_}
-use mathlib.Core.List.{List}
+use mathlib.Core.List.{List, [], _∷_}
 use Prim.Native.Nat.{ℕ, _+_, _-_, _≤_}
 use native.Mathlib.Omega.{arith}
 use lib.ListN.{length, take, drop, length-drop}
 use lib.Seq.{take-all}
+use types.Run.{OneOf, miss}
+use denote.Enum.Declared.{tagOf}
 use borrow.Author.Needs.{needs}
 use Rattle.streams.specs.declared.Outcome.{Outcome}
-use Rattle.streams.specs.declared.Outcome.the-variants.{Moved}
-use Rattle.streams.specs.Outcomes.{Got}
+use Rattle.streams.specs.declared.Outcome.the-variants.{Moved, Again, Failed}
+use Rattle.streams.specs.Outcomes.{Got, Put}
+use Rattle.streams.proofs.Outcome as outcome
 use Rattle.streams.proofs.write.Statement.{statement}
 use Rattle.streams.proofs.write.Tie as tie
 
@@ -25,6 +28,12 @@ within done buf r n h e g =
     let rest = ap length (take-all (length buf - done) (drop done buf) (omega (arith, length-drop done buf))) ∙ length-drop done buf in
     let some : n ≤ length (take (length buf - done) (drop done buf)) = subst (Got (length (take (length buf - done) (drop done buf)))) e g in
     omega (arith, rest, some)
+
+-- where a write moves nothing, it failed
+stopped : (n m : ℕ) (r : Outcome) → OneOf (1 ∷ 2 ∷ []) (tagOf outcome.the-type r) → Got n r → Put m r
+stopped n m (Moved k) o g = absurd (miss (1 ∷ 2 ∷ []) 0 tt o)
+stopped n m Again o g = absurd g
+stopped n m Failed o g = tt
 
 -- so with a turn that wrote some
 more : (c : tie.Else1 Inv-loop μ-loop) → c .before .before .before .before .before .before .before .loop .done + c .before .before .put .given .0 .0 ≤ length (c .before .before .before .before .before .before .before .before .before .args .buf .now)
@@ -53,7 +62,10 @@ enum-known-put : tie.Need-enum-known-put Inv-loop μ-loop
 enum-known-put c = search needs
 
 returns : tie.Need-returns Inv-loop μ-loop
-returns c = search needs
+returns c =
+    let buf = c .before .before .before .before .before .before .args .buf .now in
+    let done = c .before .before .before .before .loop .done in
+    stopped (length (take (length buf - done) (drop done buf))) (length buf) (c .before .write-some .result) (c .match .keys2) (c .before .write-some .ensures)
 
 returns-2 : tie.Need-returns-2 Inv-loop μ-loop
 returns-2 c = search needs
