@@ -29,6 +29,6 @@ module _ (n : ℕ) where
   told (pos k) error r m e o = subst (Got n) (sym e) m
   told (negsuc k) error r m e o = failed (passes error) r e o
 
-  -- of an answer, and of an error, as they are read back from their bits
+  -- of an answer as it is read back from its bits
   pub settled : (answer error : ℤ) (r : Outcome) → SFits w64 answer → io.Moved n answer → r ≡ outcomeOf (toZ w64 (ofZ w64 answer)) error → Other r → Got n r
   settled answer error r f m e o = told answer error r m (e ∙ ap (λ (z : ℤ). outcomeOf z error) (toZ-ofZ f)) o

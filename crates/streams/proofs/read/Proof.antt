@@ -1,3 +1,5 @@
+-- `streams::read` meets its contract: what is not tried again moved some bytes, or failed. The loop's invariant: the buffer is as long as it was.
+-- Assumes nothing.
 use mathlib.Core.Path.{_≡_, subst}
 use Prim.Native.Nat.{ℕ}
 use lib.ListN.{length}

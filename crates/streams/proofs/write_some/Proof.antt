@@ -1,3 +1,5 @@
+-- `streams::write_some` meets its contract: what is not tried again moved some bytes, or failed. Nothing has to hold from turn to turn.
+-- Assumes nothing.
 use lib.ListN.{length}
 use mir.Syntax.{w32}
 use mir.Val.{toZ, ofZ}
