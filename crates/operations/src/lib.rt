@@ -1,22 +1,16 @@
 // The operations of the library. Each is lent a room of its own, and a space changes only with a 0.
-mod floats;
-mod lent;
 mod models;
 
 use commands::Operation;
 use commands::State;
-use floats::floats_of;
-use floats::put_answer;
 use layout::Model;
 use layout::cumulus_one::VARIABLES;
-use layout::refusals::DONE;
-use lent::LENT;
-use lent::MARGIN;
-use lent::fresh;
-use lent::put_refused;
-use lent::put_sides;
-use lent::store;
-use spaces::drawing::checksum;
+use lending::MARGIN;
+use lending::fresh;
+use lending::put_read;
+use lending::settle;
+use patterns::floats_of;
+use patterns::put_answer;
 use spaces::reasons::no_room;
 use spaces::reasons::no_space;
 use spaces::rooms::ALL;
@@ -26,40 +20,6 @@ use spaces::rooms::larger;
 use spaces::rooms::length_of;
 use spaces::rooms::numbers_of;
 use texts::OUT;
-use texts::put_named;
-use texts::put_numbers;
-use texts::put_text;
-
-// Takes a written table over into its space, and says what was written.
-fn settle(
-    number: u64,
-    lent: &[i64; LENT],
-    into: u64,
-    spaces: &mut [i64; ALL],
-    out: &mut [u8; OUT],
-    at: usize,
-) -> usize {
-    let count = length_of(into, spaces);
-    let end = MARGIN + count;
-    if number != DONE {
-        return put_refused(number, lent, end, out, at);
-    }
-    store(lent, into, spaces);
-    let wrote = put_named(b"0 wrote ", count as u64, out, at);
-    let sum = checksum(lent, MARGIN, end);
-    let next = put_named(b" sum ", sum, out, wrote);
-    put_sides(lent, end, out, next)
-}
-
-// Says which values were read.
-fn put_read(number: u64, lent: &[i64; LENT], end: usize, out: &mut [u8; OUT], at: usize) -> usize {
-    if number != DONE {
-        return put_refused(number, lent, end, out, at);
-    }
-    let done = put_text(b"0 ", out, at);
-    let next = put_numbers(lent, MARGIN, end, out, done);
-    put_sides(lent, end, out, next)
-}
 
 fn publish(
     model: Model,

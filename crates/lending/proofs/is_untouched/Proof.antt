@@ -1,8 +1,8 @@
--- `operations::lent::is_untouched` meets its contract: the loop counts up to its end. Assumes nothing.
+-- `lending::is_untouched` meets its contract: the loop counts up to its end. Assumes nothing.
 use Prim.Native.Nat.{_≤_, _-_}
 use borrow.Author.Needs.{needs}
-use Rattle.operations.proofs.lent.is_untouched.Statement.{statement}
-use Rattle.operations.proofs.lent.is_untouched.Tie as tie
+use Rattle.lending.proofs.is_untouched.Statement.{statement}
+use Rattle.lending.proofs.is_untouched.Tie as tie
 
 abbrev Inv-loop : tie.InvT-loop
 Inv-loop lent from end stop k₀ k = (0 ≤ k)

@@ -1,4 +1,4 @@
--- `operations::floats::float_of` meets its contract: without its sign a pattern up to the infinity's is no NaN's. Assumes nothing.
+-- `patterns::float_of` meets its contract: without its sign a pattern up to the infinity's is no NaN's. Assumes nothing.
 use Prim.Native.Nat.{ℕ, _%_, _≤_}
 use mathlib.Core.Path.{sym, subst}
 use mathlib.Core.Bool.{Bool, not}
@@ -7,8 +7,8 @@ use lib.Dec.{T, ltb, ltb→lt, not-T}
 use lib.Ieee.{binary64, nanBits}
 use lib.Ieee.Bits.{nanBits-above}
 use borrow.Author.Needs.{needs}
-use Rattle.operations.proofs.floats.float_of.Statement.{statement}
-use Rattle.operations.proofs.floats.float_of.Tie as tie
+use Rattle.patterns.proofs.float_of.Statement.{statement}
+use Rattle.patterns.proofs.float_of.Tie as tie
 
 -- the patterns of minus zero and of plus infinity
 abbrev sign : ℕ

@@ -1,4 +1,4 @@
-// A table read at floats, which are told by their bit patterns.
+// Floats told by their bit patterns: the readings of a read with floats, and its answer.
 use door::Answer;
 use layout::cumulus_one::VARIABLES;
 use texts::OUT;

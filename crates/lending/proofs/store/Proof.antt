@@ -1,9 +1,9 @@
--- `operations::lent::store` meets its contract: the loop counts up to the room of a space. Assumes nothing.
+-- `lending::store` meets its contract: the loop counts up to the room of a space. Assumes nothing.
 use Prim.Native.Nat.{_≤_, _-_}
 use Rattle.spaces.specs.Sizes.{spaceRoom}
 use borrow.Author.Needs.{needs}
-use Rattle.operations.proofs.lent.store.Statement.{statement}
-use Rattle.operations.proofs.lent.store.Tie as tie
+use Rattle.lending.proofs.store.Statement.{statement}
+use Rattle.lending.proofs.store.Tie as tie
 
 abbrev Inv-loop : tie.InvT-loop
 Inv-loop lent into spaces₀ start k₀ spaces k = (k ≤ spaceRoom)

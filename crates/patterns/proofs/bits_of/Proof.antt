@@ -1,11 +1,11 @@
--- `operations::floats::bits_of` meets its contract: only a NaN is not equal to itself. Assumes nothing.
+-- `patterns::bits_of` meets its contract: only a NaN is not equal to itself. Assumes nothing.
 use mathlib.Core.Path.{_≡_}
 use mathlib.Core.Bool.{false, not, true≢false}
 use lib.Dec.{T}
 use lib.Ieee.{Float, nan, inf, fin, ne, eq, isNan}
 use borrow.Author.Needs.{needs}
-use Rattle.operations.proofs.floats.bits_of.Statement.{statement}
-use Rattle.operations.proofs.floats.bits_of.Tie as tie
+use Rattle.patterns.proofs.bits_of.Statement.{statement}
+use Rattle.patterns.proofs.bits_of.Tie as tie
 
 no-nan : (x : Float) → ne x x ≡ false → T (not (isNan x))
 unfolding ne eq isNan
