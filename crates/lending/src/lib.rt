@@ -36,32 +36,38 @@ fn is_untouched(lent: &[i64; LENT], from: usize, end: usize) -> bool {
     true
 }
 
-fn put_touched(lent: &[i64; LENT], end: usize, out: &mut [u8; OUT], at: usize) -> usize {
-    if is_untouched(lent, MARGIN, end) {
+// Whether the numbers of a room are as they were, and whether its sides are.
+struct Left {
+    within: bool,
+    sides: bool,
+}
+
+// What is left of a room that ends at a place.
+fn left_of(lent: &[i64; LENT], end: usize) -> Left {
+    Left {
+        within: is_untouched(lent, MARGIN, end),
+        sides: is_untouched(lent, 0, MARGIN) & is_untouched(lent, end, LENT),
+    }
+}
+
+fn put_touched(left: Left, out: &mut [u8; OUT], at: usize) -> usize {
+    if left.within {
         return put_text(b" untouched", out, at);
     }
     put_text(b" touched", out, at)
 }
 
-// Says where one of the sides of a room that ends at a place has changed.
-fn put_sides(lent: &[i64; LENT], end: usize, out: &mut [u8; OUT], at: usize) -> usize {
-    if is_untouched(lent, 0, MARGIN) & is_untouched(lent, end, LENT) {
+fn put_sides(left: Left, out: &mut [u8; OUT], at: usize) -> usize {
+    if left.sides {
         return at;
     }
     put_text(b" outside", out, at)
 }
 
-// What a refusal left of the room.
-fn put_refused(
-    number: u64,
-    lent: &[i64; LENT],
-    end: usize,
-    out: &mut [u8; OUT],
-    at: usize,
-) -> usize {
+fn put_refused(number: u64, left: Left, out: &mut [u8; OUT], at: usize) -> usize {
     let refused = put_natural(number, out, at);
-    let next = put_touched(lent, end, out, refused);
-    put_sides(lent, end, out, next)
+    let next = put_touched(left, out, refused);
+    put_sides(left, out, next)
 }
 
 // Takes what was written over into a space.
@@ -74,7 +80,22 @@ fn store(lent: &[i64; LENT], into: u64, spaces: &mut [i64; ALL]) {
     }
 }
 
-// Takes a written table over into its space, and says what was written.
+// Takes what was written over into its space, and says how much it is.
+fn put_wrote(
+    lent: &[i64; LENT],
+    into: u64,
+    spaces: &mut [i64; ALL],
+    out: &mut [u8; OUT],
+    at: usize,
+) -> usize {
+    store(lent, into, spaces);
+    let count = length_of(into, spaces);
+    let wrote = put_named(b"0 wrote ", count as u64, out, at);
+    let sum = checksum(lent, MARGIN, MARGIN + count);
+    put_named(b" sum ", sum, out, wrote)
+}
+
+// What is said of a written table.
 pub fn settle(
     number: u64,
     lent: &[i64; LENT],
@@ -83,19 +104,15 @@ pub fn settle(
     out: &mut [u8; OUT],
     at: usize,
 ) -> usize {
-    let count = length_of(into, spaces);
-    let end = MARGIN + count;
+    let left = left_of(lent, MARGIN + length_of(into, spaces));
     if number != DONE {
-        return put_refused(number, lent, end, out, at);
+        return put_refused(number, left, out, at);
     }
-    store(lent, into, spaces);
-    let wrote = put_named(b"0 wrote ", count as u64, out, at);
-    let sum = checksum(lent, MARGIN, end);
-    let next = put_named(b" sum ", sum, out, wrote);
-    put_sides(lent, end, out, next)
+    let next = put_wrote(lent, into, spaces, out, at);
+    put_sides(left, out, next)
 }
 
-// Says which values were read.
+// What is said of values that were read.
 pub fn put_read(
     number: u64,
     lent: &[i64; LENT],
@@ -103,10 +120,11 @@ pub fn put_read(
     out: &mut [u8; OUT],
     at: usize,
 ) -> usize {
+    let left = left_of(lent, end);
     if number != DONE {
-        return put_refused(number, lent, end, out, at);
+        return put_refused(number, left, out, at);
     }
     let done = put_text(b"0 ", out, at);
     let next = put_numbers(lent, MARGIN, end, out, done);
-    put_sides(lent, end, out, next)
+    put_sides(left, out, next)
 }
