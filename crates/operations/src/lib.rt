@@ -1,103 +1,15 @@
-// The operations of the library. Each is lent a room of its own, and a space changes only with a 0.
-mod models;
-
+// The operations of the library on tables in spaces: whether there are such spaces, and which one is asked for.
 use commands::Operation;
-use commands::State;
-use layout::Model;
-use layout::cumulus_one::VARIABLES;
-use lending::MARGIN;
-use lending::fresh;
-use lending::put_read;
-use lending::settle;
-use patterns::floats_of;
-use patterns::put_answer;
-use spaces::reasons::no_room;
+use readings::read;
+use readings::read_floats;
+use readings::read_microradians;
 use spaces::reasons::no_space;
 use spaces::rooms::ALL;
-use spaces::rooms::ROOM;
 use spaces::rooms::SPACES;
 use spaces::rooms::larger;
-use spaces::rooms::length_of;
-use spaces::rooms::numbers_of;
 use texts::OUT;
-
-fn publish(
-    model: Model,
-    into: u64,
-    spaces: &mut [i64; ALL],
-    out: &mut [u8; OUT],
-    at: usize,
-) -> usize {
-    let mut lent = fresh();
-    let from = MARGIN;
-    let end = from + length_of(into, spaces);
-    let number = models::publish(model, &mut lent[from..end]);
-    settle(number, &lent, into, spaces, out, at)
-}
-
-fn move_zero(
-    model: Model,
-    space: u64,
-    variable: u64,
-    shift: i64,
-    into: u64,
-    spaces: &mut [i64; ALL],
-    out: &mut [u8; OUT],
-    at: usize,
-) -> usize {
-    let mut lent = fresh();
-    let from = MARGIN;
-    let end = from + length_of(into, spaces);
-    let table = numbers_of(space, spaces);
-    let number = models::move_datum(model, table, variable as usize, shift, &mut lent[from..end]);
-    settle(number, &lent, into, spaces, out, at)
-}
-
-fn read(
-    space: u64,
-    room: u64,
-    state: State,
-    spaces: &[i64; ALL],
-    out: &mut [u8; OUT],
-    at: usize,
-) -> usize {
-    if room > ROOM as u64 {
-        return no_room(out, at);
-    }
-    let mut lent = fresh();
-    let from = MARGIN;
-    let end = from + room as usize;
-    let table = numbers_of(space, spaces);
-    let number = models::read(table, state, &mut lent[from..end]);
-    put_read(number, &lent, end, out, at)
-}
-
-fn read_microradians(
-    room: u64,
-    readings: [i64; VARIABLES],
-    out: &mut [u8; OUT],
-    at: usize,
-) -> usize {
-    if room > ROOM as u64 {
-        return no_room(out, at);
-    }
-    let mut lent = fresh();
-    let from = MARGIN;
-    let end = from + room as usize;
-    let number = microradians::read(readings, &mut lent[from..end]);
-    put_read(number, &lent, end, out, at)
-}
-
-fn read_floats(
-    space: u64,
-    readings: [u64; VARIABLES],
-    spaces: &[i64; ALL],
-    out: &mut [u8; OUT],
-    at: usize,
-) -> usize {
-    let answer = door::read_floats(numbers_of(space, spaces), floats_of(readings));
-    put_answer(answer, out, at)
-}
+use writings::move_zero;
+use writings::publish;
 
 // The space of an operation, and of two the larger one; the first where it takes none.
 fn last_space(operation: Operation) -> u64 {
