@@ -18,12 +18,13 @@ silent : map command (map text ("" ∷ "   " ∷ "# read 0" ∷ "  #" ∷ [])) �
 unfolding words names kinds magnitude
 silent = refl
 
-operations : map command (map text ("publish 9" ∷ " move 0  4 -250 1 " ∷ "read 1 6 -1 2 -3 4 5" ∷ "floats 1 0 3ff0000000000000 2 3 a" ∷ "microradians 6 -150000 2 -3 4 5" ∷ []))
+operations : map command (map text ("publish 9" ∷ " move 0  4 -250 1 " ∷ "read 1 6 -1 2 -3 4 5" ∷ "floats 1 0 3ff0000000000000 2 3 a" ∷ "microradians 6 -150000 2 -3 4 5" ∷ "many 1 2 53 4" ∷ []))
     ≡ C.Operation (O.Publish Cumulus 9)
     ∷ C.Operation (O.Move Cumulus 0 4 (negsuc 249) 1)
     ∷ C.Operation (O.Read 1 6 (S.Cumulus (negsuc 0) (pos 2) (negsuc 2) (pos 4) (pos 5)))
     ∷ C.Operation (O.Floats 1 0 4607182418800017408 2 3 10)
     ∷ C.Operation (O.Microradians 6 (negsuc 149999) (pos 2) (negsuc 2) (pos 4) (pos 5))
+    ∷ C.Operation (O.Many 1 2 53 4)
     ∷ []
 unfolding words names kinds magnitude
 operations = refl
@@ -48,8 +49,8 @@ unfolding words names kinds magnitude
 keepings = refl
 
 -- no such command, one word too few, one too many, no such number
-misused : map command (map text ("sums 1" ∷ "Sum 1" ∷ "a" ∷ "sum" ∷ "sum 1 2" ∷ "publish -1" ∷ "set 0 0 9223372036854775808" ∷ "floats 0 0 0 0 0 A" ∷ "microradians 6 0 0 0 0" ∷ "microradians -1 0 0 0 0 0" ∷ []))
-    ≡ map C.Misused (N.Other ∷ N.Other ∷ N.Other ∷ N.Sum ∷ N.Sum ∷ N.Publish ∷ N.Set ∷ N.Floats ∷ N.Microradians ∷ N.Microradians ∷ [])
+misused : map command (map text ("sums 1" ∷ "Sum 1" ∷ "a" ∷ "sum" ∷ "sum 1 2" ∷ "publish -1" ∷ "set 0 0 9223372036854775808" ∷ "floats 0 0 0 0 0 A" ∷ "microradians 6 0 0 0 0" ∷ "microradians -1 0 0 0 0 0" ∷ "many 0 1 2" ∷ "many 0 1 2 3 4" ∷ "many 0 1 -2 3" ∷ []))
+    ≡ map C.Misused (N.Other ∷ N.Other ∷ N.Other ∷ N.Sum ∷ N.Sum ∷ N.Publish ∷ N.Set ∷ N.Floats ∷ N.Microradians ∷ N.Microradians ∷ N.Many ∷ N.Many ∷ N.Many ∷ [])
 unfolding words names kinds magnitude
 misused = refl
 

@@ -24,7 +24,7 @@ use Rattle.commands.specs.declared.Command.the-variants as C
 
 -- ════ names: a word's place among them, which is their number where it is none of them
 unfoldable pub names : List ℕ
-names = text "publish move read floats microradians gtm_publish gtm_move gtm_read length set fill copy show sum"
+names = text "publish move read floats microradians many gtm_publish gtm_move gtm_read length set fill copy show sum"
 
 abbrev pub place : List ℕ → List (List ℕ) → ℕ
 place word [] = 0
@@ -37,6 +37,7 @@ named =
     ∷ N.Read
     ∷ N.Floats
     ∷ N.Microradians
+    ∷ N.Many
     ∷ N.GtmPublish
     ∷ N.GtmMove
     ∷ N.GtmRead
@@ -56,7 +57,7 @@ nameAt p = getD named p N.Other
 
 -- ════ the words behind a name: natural, signed or bits, for each name in the same order
 unfoldable pub kinds : List ℕ
-kinds = text "n nnsn nnsssss nbbbbb nsssss n nnsn nnss nn nns nnnnn nn nnn n"
+kinds = text "n nnsn nnsssss nbbbbb nsssss nnnn n nnsn nnss nn nns nnnnn nn nnn n"
 
 abbrev pub kindOf : ℕ → Kind
 kindOf b = cond (eqb b 110) Natural (cond (eqb b 115) Signed Bits)
@@ -92,6 +93,7 @@ asked N.Floats l =
     C.Operation (O.Floats (naturalAt l 1) (bitsAt l 2) (bitsAt l 3) (bitsAt l 4) (bitsAt l 5) (bitsAt l 6))
 asked N.Microradians l =
     C.Operation (O.Microradians (naturalAt l 1) (signedAt l 2) (signedAt l 3) (signedAt l 4) (signedAt l 5) (signedAt l 6))
+asked N.Many l = C.Operation (O.Many (naturalAt l 1) (naturalAt l 2) (naturalAt l 3) (naturalAt l 4))
 asked N.GtmPublish l = publish Gtm l
 asked N.GtmMove l = moveZero Gtm l
 asked N.GtmRead l = read (gtmState l) l

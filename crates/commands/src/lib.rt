@@ -22,6 +22,7 @@ pub enum Name {
     Read,
     Floats,
     Microradians,
+    Many,
     GtmPublish,
     GtmMove,
     GtmRead,
@@ -83,6 +84,12 @@ pub enum Operation {
         eta: i64,
         zeta: i64,
     },
+    Many {
+        space: u64,
+        states: u64,
+        count: u64,
+        into: u64,
+    },
 }
 
 // What is done with the spaces themselves.
@@ -126,7 +133,7 @@ pub enum Command {
 }
 
 // How many names there are.
-const NAMES: usize = 14;
+const NAMES: usize = 15;
 
 // The place of the first word of a line among names.
 fn place_in(line: &[u8], names: &[u8]) -> usize
@@ -148,7 +155,7 @@ fn place_of(line: &[u8]) -> usize
 {
     place_in(
         line,
-        b"publish move read floats microradians gtm_publish gtm_move gtm_read length set fill copy show sum",
+        b"publish move read floats microradians many gtm_publish gtm_move gtm_read length set fill copy show sum",
     )
 }
 
@@ -193,7 +200,7 @@ fn fits(line: &[u8], place: usize) -> bool
 {
     fits_in(
         line,
-        b"n nnsn nnsssss nbbbbb nsssss n nnsn nnss nn nns nnnnn nn nnn n",
+        b"n nnsn nnsssss nbbbbb nsssss nnnn n nnsn nnss nn nns nnnnn nn nnn n",
         place,
     )
 }
@@ -207,15 +214,16 @@ fn name_at(place: usize) -> Name
         2 => Name::Read,
         3 => Name::Floats,
         4 => Name::Microradians,
-        5 => Name::GtmPublish,
-        6 => Name::GtmMove,
-        7 => Name::GtmRead,
-        8 => Name::Length,
-        9 => Name::Set,
-        10 => Name::Fill,
-        11 => Name::Copy,
-        12 => Name::Show,
-        13 => Name::Sum,
+        5 => Name::Many,
+        6 => Name::GtmPublish,
+        7 => Name::GtmMove,
+        8 => Name::GtmRead,
+        9 => Name::Length,
+        10 => Name::Set,
+        11 => Name::Fill,
+        12 => Name::Copy,
+        13 => Name::Show,
+        14 => Name::Sum,
         _ => Name::Other,
     }
 }
@@ -309,6 +317,19 @@ fn microradians(line: &[u8]) -> Command
     }
 }
 
+fn many(line: &[u8]) -> Command
+    ensures { λ r. ⌜ r ≡ asked Name.Many (now (line .entry)) ⌝ }
+{
+    Command::Operation {
+        operation: Operation::Many {
+            space: natural_at(line, 1),
+            states: natural_at(line, 2),
+            count: natural_at(line, 3),
+            into: natural_at(line, 4),
+        },
+    }
+}
+
 fn length(line: &[u8]) -> Command
     ensures { λ r. ⌜ r ≡ asked Name.Length (now (line .entry)) ⌝ }
 {
@@ -389,6 +410,7 @@ fn asked(line: &[u8], name: Name) -> Command
         Name::Read => read(line, cumulus_state(line)),
         Name::Floats => floats(line),
         Name::Microradians => microradians(line),
+        Name::Many => many(line),
         Name::GtmPublish => publish(line, Model::Gtm),
         Name::GtmMove => move_zero(line, Model::Gtm),
         Name::GtmRead => read(line, gtm_state(line)),

@@ -2,12 +2,14 @@
 // of an answer are compared with those that the second program works out; proved is that everything stays within its room.
 use layout::refusals::DONE;
 use spaces::drawing::checksum;
+use spaces::drawing::signed;
 use spaces::rooms::ALL;
 use spaces::rooms::ROOM;
 use spaces::rooms::length_of;
 use spaces::rooms::start_of;
 use texts::OUT;
 use texts::least;
+use texts::put_byte;
 use texts::put_named;
 use texts::put_natural;
 use texts::put_numbers;
@@ -21,6 +23,22 @@ const PATTERN: i64 = 1234567890123456789;
 
 pub fn fresh() -> [i64; LENT] {
     [PATTERN; LENT]
+}
+
+// A room for the numbers that states are given.
+pub fn fresh_numbers() -> [u64; LENT] {
+    [PATTERN as u64; LENT]
+}
+
+// Such a room with the same bits as signed numbers, so that both kinds of rooms are looked at by the same functions.
+fn signed_room(numbers: &[u64; LENT]) -> [i64; LENT] {
+    let mut room = fresh();
+    let mut k: usize = 0;
+    while k < LENT {
+        room[k] = signed(numbers[k]);
+        k += 1;
+    }
+    room
 }
 
 // Whether nothing has changed from one place up to another.
@@ -47,6 +65,13 @@ fn left_of(lent: &[i64; LENT], end: usize) -> Left {
     Left {
         within: is_untouched(lent, MARGIN, end),
         sides: is_untouched(lent, 0, MARGIN) & is_untouched(lent, end, LENT),
+    }
+}
+
+fn left_of_both(a: Left, b: Left) -> Left {
+    Left {
+        within: a.within & b.within,
+        sides: a.sides & b.sides,
     }
 }
 
@@ -109,6 +134,38 @@ pub fn settle(
         return put_refused(number, left, out, at);
     }
     let next = put_wrote(lent, into, spaces, out, at);
+    put_sides(left, out, next)
+}
+
+// Which number each state was given.
+fn put_gave(given: &[i64; LENT], end: usize, out: &mut [u8; OUT], at: usize) -> usize {
+    let gave = put_text(b" gave", out, at);
+    if end == MARGIN {
+        return gave;
+    }
+    let next = put_byte(b' ', out, gave);
+    put_numbers(given, MARGIN, end, out, next)
+}
+
+// What is said of many states: what each was given, in a room that ends at a place, and the values that were written.
+pub fn settle_many(
+    number: u64,
+    numbers: &[u64; LENT],
+    end: usize,
+    lent: &[i64; LENT],
+    into: u64,
+    spaces: &mut [i64; ALL],
+    out: &mut [u8; OUT],
+    at: usize,
+) -> usize {
+    let given = signed_room(numbers);
+    let written = left_of(lent, MARGIN + length_of(into, spaces));
+    let left = left_of_both(left_of(&given, end), written);
+    if number != DONE {
+        return put_refused(number, left, out, at);
+    }
+    let wrote = put_wrote(lent, into, spaces, out, at);
+    let next = put_gave(&given, end, out, wrote);
     put_sides(left, out, next)
 }
 

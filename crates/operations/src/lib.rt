@@ -10,8 +10,9 @@ use spaces::rooms::larger;
 use texts::OUT;
 use writings::move_zero;
 use writings::publish;
+use writings::read_many;
 
-// The space of an operation, and of two the larger one; the first where it takes none.
+// The largest space of an operation; the first where it takes none.
 fn last_space(operation: Operation) -> u64 {
     match operation {
         Operation::Publish { into, .. } => into,
@@ -19,6 +20,12 @@ fn last_space(operation: Operation) -> u64 {
         Operation::Read { space, .. } => space,
         Operation::Floats { space, .. } => space,
         Operation::Microradians { .. } => 0,
+        Operation::Many {
+            space,
+            states,
+            into,
+            ..
+        } => larger(larger(space, states), into),
     }
 }
 
@@ -49,6 +56,12 @@ fn work(operation: Operation, spaces: &mut [i64; ALL], out: &mut [u8; OUT], at: 
             eta,
             zeta,
         } => { read_microradians(room, [alpha, beta, xi, eta, zeta], out, at) }
+        Operation::Many {
+            space,
+            states,
+            count,
+            into,
+        } => read_many(space, states, count, into, spaces, out, at),
     }
 }
 

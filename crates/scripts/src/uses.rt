@@ -24,6 +24,7 @@ pub fn put_use(name: Name, out: &mut [u8; OUT], at: usize) -> usize {
         Name::Microradians => {
             put_text(b"? use: microradians ROOM ALPHA BETA XI ETA ZETA", out, at)
         }
+        Name::Many => put_text(b"? use: many SPACE STATES COUNT INTO", out, at),
         Name::GtmPublish => put_text(b"? use: gtm_publish INTO", out, at),
         Name::GtmMove => put_text(b"? use: gtm_move SPACE VARIABLE SHIFT INTO", out, at),
         Name::GtmRead => put_text(b"? use: gtm_read SPACE ROOM ALPHA ETA", out, at),

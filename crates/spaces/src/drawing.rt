@@ -36,7 +36,7 @@ pub fn checksum(numbers: &[i64], from: usize, end: usize) -> u64 {
 }
 
 // The number of a two's complement.
-fn signed(w: u64) -> i64 {
+pub fn signed(w: u64) -> i64 {
     if w < SIGN {
         return w as i64;
     }

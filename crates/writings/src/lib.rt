@@ -3,8 +3,12 @@
 use layout::Model;
 use lending::MARGIN;
 use lending::fresh;
+use lending::fresh_numbers;
 use lending::settle;
+use lending::settle_many;
+use spaces::reasons::no_room;
 use spaces::rooms::ALL;
+use spaces::rooms::ROOM;
 use spaces::rooms::length_of;
 use spaces::rooms::numbers_of;
 use texts::OUT;
@@ -54,4 +58,33 @@ pub fn move_zero(
     let table = numbers_of(space, spaces);
     let number = move_table(model, table, variable as usize, shift, &mut lent[from..end]);
     settle(number, &lent, into, spaces, out, at)
+}
+
+// The table and the states are the numbers of their spaces; there is room for what so many states are given.
+pub fn read_many(
+    space: u64,
+    states: u64,
+    count: u64,
+    into: u64,
+    spaces: &mut [i64; ALL],
+    out: &mut [u8; OUT],
+    at: usize,
+) -> usize {
+    if count > ROOM as u64 {
+        return no_room(out, at);
+    }
+    let mut numbers = fresh_numbers();
+    let mut lent = fresh();
+    let from = MARGIN;
+    let last = from + count as usize;
+    let end = from + length_of(into, spaces);
+    let table = numbers_of(space, spaces);
+    let listed = numbers_of(states, spaces);
+    let number = cumulus::read_many(
+        table,
+        listed,
+        &mut numbers[from..last],
+        &mut lent[from..end],
+    );
+    settle_many(number, &numbers, last, &lent, into, spaces, out, at)
 }

@@ -35,4 +35,5 @@ name-at-spec =
     (λ c. sym (ap nameAt (c .match .keys12)))
     (λ c. sym (ap nameAt (c .match .keys13)))
     (λ c. sym (ap nameAt (c .match .keys14)))
+    (λ c. sym (ap nameAt (c .match .keys15)))
     (λ c. sym (List·getD-eq-default named N.Other {n = c .before .args .place} (behind nameCount (c .before .args .place) (c .match .rest)))))
