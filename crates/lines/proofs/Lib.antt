@@ -1,4 +1,5 @@
 pub mod Controls
+pub mod Digits
 pub mod Parsed
 pub mod Steps
 pub mod Words

@@ -1,22 +1,21 @@
 -- The bytes of a line, taken one by one, end in what `Line` says of the whole line.
 --   parsed  of every list of bytes
-use mathlib.Core.Path.{_≡_, refl, sym, ap, ap₂, _∙_}
+use mathlib.Core.Path.{_≡_, refl, sym, ap, ap₂, subst, _∙_}
 use mathlib.Core.Bool.{Bool, true, false, cond, not, _&&_}
 use mathlib.Core.List.{List, [], _∷_, _++_, map, append-assoc}
 use mathlib.Core.Option.{Option, none, some}
 use Prim.Native.Nat.{ℕ, zero, suc, _+_, _*_, _-_, _^_, _<_, _≤_}
-use native.Mathlib.Nat.{pow-suc}
-use native.Mathlib.Numerals.{add-one}
 use native.Mathlib.Omega.{arith}
-use borrow.Author.Tests.{eqb-true, eqb-false, leb-true, leb-false, ltb-true, ltb-false, ne-eqb, le-leb, lt-leb}
-use lib.Dec.{leb, ltb, eqb}
+use borrow.Author.Tests.{eqb-true, eqb-false, leb-true, leb-false, ltb-true, ltb-false, ne-eqb, lt-leb}
+use lib.Dec.{T, leb, ltb, eqb}
 use lib.IntN.{ℤ}
 use lib.ListN.{length, drop}
 use Rattle.lines.specs.declared.Line.{Line}
 use Rattle.lines.specs.declared.Line.the-variants.{Readings, Malformed}
 use Rattle.lines.specs.declared.State.{State}
 use Rattle.lines.specs.Line.{onto, words, isDigit, signed, number, with, allNumbers, five, parse}
-use Rattle.lines.specs.State.{start, refused, shifted, ended, negated, minus, withDigit, digit, stepped, steppedBy, finished}
+use Rattle.lines.specs.State.{oneDigit, fourDigits, numberOf, start, refused, shifted, ended, negated, minus, withDigit, digit, stepped, steppedBy, finished}
+use Rattle.lines.proofs.Digits.{Digits, none-yet, has-digit, full, room, value, empty, more}
 use Rattle.lines.proofs.Words.{rest, rest-digit, rest-full, rest-other, rest-minus, rest-twice, rest-late, rest-empty, rest-end}
 
 -- ════ the words: the first goes on with the bytes before it
@@ -106,38 +105,39 @@ line-few (suc (suc zero)) a b c d (some x) h = refl
 line-few (suc (suc (suc zero))) a b c d (some x) h = refl
 line-few (suc (suc (suc (suc n)))) a b c d (some x) h = absurd (omega arith)
 
--- what the bytes of a line leave a state in, where they may be the start of a good line
-record Good (s : State) : Type 0 where
-  well : s .malformed ≡ false
+-- what the bytes of a line leave a state in, where they may be the start of a good line: k digits of the value v in the word that has not ended
+record Good (s : State) (k v : ℕ) : Type 0 where
   words-few : s .words ≤ 4
-  digits-few : s .digits ≤ 4
-  value-small : s .value < 10 ^ s .digits
+  digits : Digits (s .digits) k v
+
+abbrev negative : State → Bool
+negative s = ltb 0 (s .minus)
 
 -- the line that a state and the bytes to come make
-lineFrom : State → List ℕ → List (List ℕ) → Line
-lineFrom s w ws =
-    line (held (s .words) (s .alpha) (s .beta) (s .xi) (s .eta)) (rest (s .negative) (s .digits) (s .value) w) ws
+lineFrom : State → ℕ → ℕ → List ℕ → List (List ℕ) → Line
+lineFrom s k v w ws = line (held (s .words) (s .alpha) (s .beta) (s .xi) (s .eta)) (rest (negative s) k v w) ws
 
-spoilt : (s : State) (w : List ℕ) (ws : List (List ℕ)) → rest (s .negative) (s .digits) (s .value) w ≡ none → lineFrom s w ws ≡ Malformed
+spoilt : (s : State) (k v : ℕ) (w : List ℕ) (ws : List (List ℕ)) → rest (negative s) k v w ≡ none → lineFrom s k v w ws ≡ Malformed
 unfolding lineFrom
-spoilt s w ws e =
+spoilt s k v w ws e =
     ap (λ x. line (held (s .words) (s .alpha) (s .beta) (s .xi) (s .eta)) x ws) e
     ∙ line-none (held (s .words) (s .alpha) (s .beta) (s .xi) (s .eta)) ws
 
 -- ════ a malformed line stays malformed
-either : (t : Bool) (s u : State) → s .malformed ≡ true → u .malformed ≡ true → cond t s u .malformed ≡ true
+either : (t : Bool) (s u : State) → s .words ≡ 5 → u .words ≡ 5 → cond t s u .words ≡ 5
 either true s u e f = e
 either false s u e f = f
 
-step-malformed : (s : State) (b : ℕ) → s .malformed ≡ true → stepped s b .malformed ≡ true
-step-malformed s b e =
-    either (eqb b 32) (ended s) _ (either (eqb (s .digits) 0) (refused s) _ refl (either (leb 4 (s .words)) (refused s) (shifted s) refl e))
-    (either (eqb b 45) (minus s) _ (either (s .negative) (refused s) _ refl (either (ltb 0 (s .digits)) (refused s) (negated s) refl e))
-    (either (ltb b 48) (refused s) _ refl
-    (either (ltb 57 b) (refused s) _ refl
-    (either (leb 4 (s .digits)) (refused s) _ refl (either (leb 1000 (s .value)) (refused s) (withDigit s (b - 48)) refl e)))))
+no-shift : (s : State) → s .words ≡ 5 → cond (leb 4 (s .words)) (refused s) (shifted s) .words ≡ 5
+no-shift s e = ap (λ n. cond (leb 4 n) (refused s) (shifted s) .words) e
 
-malformed : (s : State) (bs : List ℕ) → s .malformed ≡ true → finished (steppedBy s bs) ≡ Malformed
+step-malformed : (s : State) (b : ℕ) → s .words ≡ 5 → stepped s b .words ≡ 5
+step-malformed s b e =
+    either (isDigit b) (digit s (b - 48)) _ (either (leb fourDigits (s .digits)) (refused s) (withDigit s (b - 48)) refl e)
+    (either (eqb b 32) (ended s) _ (either (ltb (s .digits) oneDigit) (refused s) _ refl (no-shift s e))
+    (either (eqb b 45) (minus s) (refused s) (either (ltb 0 (s .minus)) (refused s) _ refl (either (leb oneDigit (s .digits)) (refused s) (negated s) refl e)) refl))
+
+malformed : (s : State) (bs : List ℕ) → s .words ≡ 5 → finished (steppedBy s bs) ≡ Malformed
 malformed s [] e = simp e
 malformed s (b ∷ bs) e = malformed (stepped s b) bs (step-malformed s b e)
 
@@ -145,38 +145,41 @@ malformed s (b ∷ bs) e = malformed (stepped s b) bs (step-malformed s b e)
 below : (n : ℕ) → n ≤ 4 → (n ≡ 4 → ⊥) → n < 4
 below n h k = omega arith
 
-small : (k v : ℕ) → k < 4 → v < 10 ^ k → v < 1000
-small zero v h l = omega arith
-small (suc zero) v h l = omega arith
-small (suc (suc zero)) v h l = omega arith
-small (suc (suc (suc zero))) v h l = omega arith
-small (suc (suc (suc (suc k)))) v h l = absurd (omega arith)
+-- a byte that is a digit, which is no other byte that a line has
+module _ (b : ℕ) where
+  low : (t : Bool) → leb 48 b ≡ t → t && leb b 57 ≡ true → 48 ≤ b
+  low true e f = leb-true 48 b e
+  low false e f = leb-true 48 b (e ∙ f)
 
-value-more : (k v d : ℕ) → v < 10 ^ k → d ≤ 9 → v * 10 + d < 10 ^ (k + 1)
-value-more k v d h l =
-    let e : 10 ^ (k + 1) ≡ 10 ^ k * 10 = ap (λ n. 10 ^ n) (add-one k) ∙ pow-suc 10 k in
-    omega arith
+  high : (t : Bool) → t && leb b 57 ≡ true → b ≤ 57
+  high true f = leb-true b 57 f
+  high false f = absurd (subst (λ c. T (not c)) f tt)
 
-has-digit : (k : ℕ) → eqb k 0 ≡ false → 0 < k
-has-digit zero e = absurd (eqb-false 0 0 e refl)
-has-digit (suc k) e = omega arith
+  digit-low : isDigit b ≡ true → 48 ≤ b
+  digit-low e = low (leb 48 b) refl e
 
-module _ (bs : List ℕ) (ih : (s : State) → Good s → finished (steppedBy s bs) ≡ lineFrom s (first (words bs)) (others (words bs))) (s : State) (good : Good s) where
+  digit-worth : isDigit b ≡ true → b - 48 ≤ 9
+  digit-worth e = let h = high (leb 48 b) e in omega arith
+
+other-byte : (b n : ℕ) → n < 48 → isDigit b ≡ true → eqb b n ≡ false
+other-byte b n h e = ne-eqb b n (λ f. omega (arith, digit-low b e))
+
+module _ (bs : List ℕ) (ih : (s : State) (k v : ℕ) → Good s k v → finished (steppedBy s bs) ≡ lineFrom s k v (first (words bs)) (others (words bs))) (s : State) (k v : ℕ) (good : Good s k v) where
   -- the rest of the word that has not ended
   abbrev tail : List ℕ → Option ℤ
-  tail = rest (s .negative) (s .digits) (s .value)
+  tail = rest (negative s) k v
 
   abbrev H : List ℤ
   H = held (s .words) (s .alpha) (s .beta) (s .xi) (s .eta)
 
-  stopped : (w : List ℕ) (ws : List (List ℕ)) → tail w ≡ none → finished (steppedBy (refused s) bs) ≡ lineFrom s w ws
-  stopped w ws e = malformed (refused s) bs refl ∙ sym (spoilt s w ws e)
+  stopped : (w : List ℕ) (ws : List (List ℕ)) → tail w ≡ none → finished (steppedBy (refused s) bs) ≡ lineFrom s k v w ws
+  stopped w ws e = malformed (refused s) bs refl ∙ sym (spoilt s k v w ws e)
 
-  taken : (r : State) (b : ℕ) → Good r → held (r .words) (r .alpha) (r .beta) (r .xi) (r .eta) ≡ H
-      → tail (b ∷ first (words bs)) ≡ rest (r .negative) (r .digits) (r .value) (first (words bs))
-      → finished (steppedBy r bs) ≡ lineFrom s (b ∷ first (words bs)) (others (words bs))
+  taken : (r : State) (k′ v′ b : ℕ) → Good r k′ v′ → held (r .words) (r .alpha) (r .beta) (r .xi) (r .eta) ≡ H
+      → tail (b ∷ first (words bs)) ≡ rest (negative r) k′ v′ (first (words bs))
+      → finished (steppedBy r bs) ≡ lineFrom s k v (b ∷ first (words bs)) (others (words bs))
   unfolding lineFrom
-  taken r b g e f = ih r g ∙ ap₂ (λ h y. line h y (others (words bs))) e (sym f)
+  taken r k′ v′ b g e f = ih r k′ v′ g ∙ ap₂ (λ h y. line h y (others (words bs))) e (sym f)
 
   -- a space
   fifth : 4 ≤ s .words → H ≡ s .alpha ∷ s .beta ∷ s .xi ∷ s .eta ∷ []
@@ -185,109 +188,105 @@ module _ (bs : List ℕ) (ih : (s : State) → Good s → finished (steppedBy s 
       let e : s .words ≡ 4 = omega (arith, good .words-few) in
       ap (λ n. drop (4 - n) (s .alpha ∷ s .beta ∷ s .xi ∷ s .eta ∷ [])) e
 
-  ended-line : 0 < s .digits → lineFrom s [] (words bs) ≡ line H (some (signed (s .negative) (s .value))) (first (words bs) ∷ others (words bs))
+  ended-line : 0 < k → lineFrom s k v [] (words bs) ≡ line H (some (signed (negative s) v)) (first (words bs) ∷ others (words bs))
   unfolding lineFrom
-  ended-line h = ap₂ (line H) (rest-end (s .negative) (s .digits) (s .value) h (good .digits-few)) (has-first bs)
+  ended-line h = ap₂ (line H) (rest-end (negative s) k v h (good .digits .few)) (has-first bs)
 
-  next-line : 0 < s .digits → s .words < 4 → lineFrom (shifted s) (first (words bs)) (others (words bs)) ≡ lineFrom s [] (words bs)
+  next-line : 0 < k → s .words < 4 → lineFrom (shifted s) 0 0 (first (words bs)) (others (words bs)) ≡ lineFrom s k v [] (words bs)
   unfolding lineFrom
   next-line h l =
-      let x = signed (s .negative) (s .value) in
-      ap (λ h. line h (number (first (words bs))) (others (words bs))) (held-more (s .words) (s .alpha) (s .beta) (s .xi) (s .eta) x l)
+      let x = signed (negative s) v in
+      ap (λ n. line (held (s .words + 1) (s .beta) (s .xi) (s .eta) (signed (negative s) n)) (number (first (words bs))) (others (words bs))) (value (good .digits))
+      ∙ ap (λ h. line h (number (first (words bs))) (others (words bs))) (held-more (s .words) (s .alpha) (s .beta) (s .xi) (s .eta) x l)
       ∙ sym (line-more H x (first (words bs)) (others (words bs)))
       ∙ sym (ended-line h)
 
-  shifted-good : s .words < 4 → Good (shifted s)
-  shifted-good l = record { well = good .well; words-few = omega arith; digits-few = omega arith; value-small = omega arith }
-
-  at-space : (t u : Bool) → eqb (s .digits) 0 ≡ t → leb 4 (s .words) ≡ u
-      → finished (steppedBy (cond t (refused s) (cond u (refused s) (shifted s))) bs) ≡ lineFrom s [] (words bs)
+  at-space : (t u : Bool) → ltb (s .digits) oneDigit ≡ t → leb 4 (s .words) ≡ u
+      → finished (steppedBy (cond t (refused s) (cond u (refused s) (shifted s))) bs) ≡ lineFrom s k v [] (words bs)
   at-space true u e f =
-      stopped [] (words bs) (ap (λ k. rest (s .negative) k (s .value) []) (eqb-true (s .digits) 0 e) ∙ rest-empty (s .negative) (s .value))
+      stopped [] (words bs) (ap (λ k. rest (negative s) k v []) (none-yet k (good .digits) (ltb-true (s .digits) oneDigit e)) ∙ rest-empty (negative s) v)
   at-space false true e f =
       malformed (refused s) bs refl
-      ∙ sym (ended-line (has-digit (s .digits) e) ∙ ap (λ h. line h (some (signed (s .negative) (s .value))) (first (words bs) ∷ others (words bs))) (fifth (leb-true 4 (s .words) f)) ∙ line-six _ _ _ _ _ _ _)
+      ∙ sym (ended-line (has-digit k (good .digits) (ltb-false (s .digits) oneDigit e)) ∙ ap (λ h. line h (some (signed (negative s) v)) (first (words bs) ∷ others (words bs))) (fifth (leb-true 4 (s .words) f)) ∙ line-six _ _ _ _ _ _ _)
   at-space false false e f =
       let l = leb-false 4 (s .words) f in
-      ih (shifted s) (shifted-good l) ∙ next-line (has-digit (s .digits) e) l
+      ih (shifted s) 0 0 (record { words-few = omega arith; digits = empty }) ∙ next-line (has-digit k (good .digits) (ltb-false (s .digits) oneDigit e)) l
 
   -- a minus
-  at-minus : (b : ℕ) (n t : Bool) → eqb b 45 ≡ true → s .negative ≡ n → ltb 0 (s .digits) ≡ t
-      → finished (steppedBy (cond n (refused s) (cond t (refused s) (negated s))) bs) ≡ lineFrom s (b ∷ first (words bs)) (others (words bs))
+  at-minus : (b : ℕ) (n t : Bool) → eqb b 45 ≡ true → negative s ≡ n → leb oneDigit (s .digits) ≡ t
+      → finished (steppedBy (cond n (refused s) (cond t (refused s) (negated s))) bs) ≡ lineFrom s k v (b ∷ first (words bs)) (others (words bs))
   at-minus b true t m e f =
-      stopped (b ∷ first (words bs)) (others (words bs)) (ap (λ n. rest n (s .digits) (s .value) (b ∷ first (words bs))) e ∙ rest-twice (s .digits) (s .value) b (first (words bs)) m)
+      stopped (b ∷ first (words bs)) (others (words bs)) (ap (λ n. rest n k v (b ∷ first (words bs))) e ∙ rest-twice k v b (first (words bs)) m)
   at-minus b false true m e f =
-      stopped (b ∷ first (words bs)) (others (words bs)) (rest-late (s .negative) (s .digits) (s .value) b (first (words bs)) (ltb-true 0 (s .digits) f) m)
+      stopped (b ∷ first (words bs)) (others (words bs)) (rest-late (negative s) k v b (first (words bs)) (has-digit k (good .digits) (leb-true oneDigit (s .digits) f)) m)
   at-minus b false false m e f =
-      let none-yet : s .digits ≡ 0 = omega (arith, ltb-false 0 (s .digits) f) in
-      let none-worth : s .value < 10 ^ 0 = rw none-yet at (good .value-small) in
-      taken (negated s) b (record { well = good .well; words-few = good .words-few; digits-few = good .digits-few; value-small = good .value-small }) refl
-      (ap₂ (λ n k. rest n k (s .value) (b ∷ first (words bs))) e none-yet
-      ∙ rest-minus (s .value) b (first (words bs)) none-worth m
-      ∙ ap (λ k. rest true k (s .value) (first (words bs))) (sym none-yet))
+      let none-here : k ≡ 0 = none-yet k (good .digits) (leb-false oneDigit (s .digits) f) in
+      let none-worth : v < 10 ^ 0 = rw none-here at (good .digits .small) in
+      taken (negated s) k v b (record { words-few = good .words-few; digits = good .digits }) refl
+      (ap₂ (λ n k. rest n k v (b ∷ first (words bs))) e none-here
+      ∙ rest-minus v b (first (words bs)) none-worth m
+      ∙ ap (λ k. rest true k v (first (words bs))) (sym none-here))
 
   -- a digit
-  at-digit : (b : ℕ) (t u : Bool) → eqb b 45 ≡ false → 48 ≤ b → b ≤ 57 → leb 4 (s .digits) ≡ t → leb 1000 (s .value) ≡ u
-      → finished (steppedBy (cond t (refused s) (cond u (refused s) (withDigit s (b - 48)))) bs) ≡ lineFrom s (b ∷ first (words bs)) (others (words bs))
-  at-digit b true u m lo hi e f =
-      stopped (b ∷ first (words bs)) (others (words bs)) (rest-full (s .negative) (s .digits) (s .value) b (first (words bs)) (good .value-small) m (leb-true 4 (s .digits) e))
-  at-digit b false true m lo hi e f =
-      let l = small (s .digits) (s .value) (leb-false 4 (s .digits) e) (good .value-small) in
-      absurd (omega (arith, leb-true 1000 (s .value) f))
-  at-digit b false false m lo hi e f =
-      let l = leb-false 4 (s .digits) e in
-      taken (withDigit s (b - 48)) b
-      (record { well = good .well; words-few = good .words-few; digits-few = omega arith; value-small = value-more (s .digits) (s .value) (b - 48) (good .value-small) (omega arith) }) refl
-      (rest-digit (s .negative) (s .digits) (s .value) b (first (words bs)) (good .value-small) m (ap₂ _&&_ (le-leb 48 b lo) (le-leb b 57 hi)))
+  at-digit : (b : ℕ) (t : Bool) → isDigit b ≡ true → leb fourDigits (s .digits) ≡ t
+      → finished (steppedBy (cond t (refused s) (withDigit s (b - 48))) bs) ≡ lineFrom s k v (b ∷ first (words bs)) (others (words bs))
+  at-digit b true d e =
+      stopped (b ∷ first (words bs)) (others (words bs)) (rest-full (negative s) k v b (first (words bs)) (good .digits .small) (other-byte b 45 (omega arith) d) (full (good .digits) (leb-true fourDigits (s .digits) e)))
+  at-digit b false d e =
+      taken (withDigit s (b - 48)) (k + 1) (v * 10 + (b - 48)) b
+      (record { words-few = good .words-few; digits = more (b - 48) (good .digits) (room (good .digits) (leb-false fourDigits (s .digits) e)) (digit-worth b d) }) refl
+      (rest-digit (negative s) k v b (first (words bs)) (good .digits .small) (other-byte b 45 (omega arith) d) d)
 
-  -- any other byte
-  at-other : (b : ℕ) → eqb b 45 ≡ false → isDigit b ≡ false → finished (steppedBy (refused s) bs) ≡ lineFrom s (b ∷ first (words bs)) (others (words bs))
-  at-other b m d = stopped (b ∷ first (words bs)) (others (words bs)) (rest-other (s .negative) (s .digits) (s .value) b (first (words bs)) (good .value-small) m d)
+  -- no digit, and no space
+  at-other : (b : ℕ) (u : Bool) → isDigit b ≡ false → eqb b 45 ≡ u
+      → finished (steppedBy (cond u (minus s) (refused s)) bs) ≡ lineFrom s k v (b ∷ first (words bs)) (others (words bs))
+  at-other b true d e = at-minus b (negative s) (leb oneDigit (s .digits)) e refl refl
+  at-other b false d e =
+      stopped (b ∷ first (words bs)) (others (words bs)) (rest-other (negative s) k v b (first (words bs)) (good .digits .small) e d)
 
-  at-byte : (b : ℕ) (u p q : Bool) → eqb b 45 ≡ u → ltb b 48 ≡ p → ltb 57 b ≡ q
-      → finished (steppedBy (cond u (minus s) (cond p (refused s) (cond q (refused s) (digit s (b - 48))))) bs) ≡ lineFrom s (b ∷ first (words bs)) (others (words bs))
-  at-byte b true p q e f g = at-minus b (s .negative) (ltb 0 (s .digits)) e refl refl
-  at-byte b false true q e f g = at-other b e (ap (λ t. t && leb b 57) (lt-leb 48 b (ltb-true b 48 f)))
-  at-byte b false false true e f g = at-other b e (ap₂ _&&_ (le-leb 48 b (ltb-false b 48 f)) (lt-leb b 57 (ltb-true 57 b g)))
-  at-byte b false false false e f g = at-digit b (leb 4 (s .digits)) (leb 1000 (s .value)) e (ltb-false b 48 f) (ltb-false 57 b g) refl refl
+  at-word : (b : ℕ) (d : Bool) → isDigit b ≡ d
+      → finished (steppedBy (cond d (digit s (b - 48)) (cond (eqb b 45) (minus s) (refused s))) bs) ≡ lineFrom s k v (b ∷ first (words bs)) (others (words bs))
+  at-word b true d = at-digit b (leb fourDigits (s .digits)) d refl
+  at-word b false d = at-other b (eqb b 45) d refl
 
   one-more : (b : ℕ) (t : Bool) → eqb b 32 ≡ t
-      → finished (steppedBy (cond t (ended s) (cond (eqb b 45) (minus s) (cond (ltb b 48) (refused s) (cond (ltb 57 b) (refused s) (digit s (b - 48)))))) bs)
-      ≡ lineFrom s (first (cond t ([] ∷ words bs) (onto b (words bs)))) (others (cond t ([] ∷ words bs) (onto b (words bs))))
+      → finished (steppedBy (cond (isDigit b) (digit s (b - 48)) (cond t (ended s) (cond (eqb b 45) (minus s) (refused s)))) bs)
+      ≡ lineFrom s k v (first (cond t ([] ∷ words bs) (onto b (words bs)))) (others (cond t ([] ∷ words bs) (onto b (words bs))))
   unfolding first others
-  one-more b true e = at-space (eqb (s .digits) 0) (leb 4 (s .words)) refl refl
+  one-more b true e =
+      ap (λ b. finished (steppedBy (cond (isDigit b) (digit s (b - 48)) (ended s)) bs)) (eqb-true b 32 e)
+      ∙ at-space (ltb (s .digits) oneDigit) (leb 4 (s .words)) refl refl
   one-more b false e =
-      at-byte b (eqb b 45) (ltb b 48) (ltb 57 b) refl refl refl
-      ∙ ap₂ (lineFrom s) (sym (first-onto b (words bs))) (sym (others-onto b (words bs)))
+      at-word b (isDigit b) refl ∙ ap₂ (lineFrom s k v) (sym (first-onto b (words bs))) (sym (others-onto b (words bs)))
 
 -- ════ every byte
-module _ (s : State) (good : Good s) where
-  whole : s .words ≡ 4 → 0 < s .digits → lineFrom s [] [] ≡ Readings (s .alpha) (s .beta) (s .xi) (s .eta) (signed (s .negative) (s .value))
+module _ (s : State) (k v : ℕ) (good : Good s k v) where
+  whole : s .words ≡ 4 → 0 < k → lineFrom s k v [] [] ≡ Readings (s .alpha) (s .beta) (s .xi) (s .eta) (signed (negative s) v)
   unfolding lineFrom line joined held
   whole e h =
-      ap₂ (λ n y. line (held n (s .alpha) (s .beta) (s .xi) (s .eta)) y []) e (rest-end (s .negative) (s .digits) (s .value) h (good .digits-few))
+      ap₂ (λ n y. line (held n (s .alpha) (s .beta) (s .xi) (s .eta)) y []) e (rest-end (negative s) k v h (good .digits .few))
 
-  few : (s .words ≡ 4 → ⊥) → lineFrom s [] [] ≡ Malformed
+  few : (s .words ≡ 4 → ⊥) → lineFrom s k v [] [] ≡ Malformed
   unfolding lineFrom
   few h =
-      line-few (s .words) (s .alpha) (s .beta) (s .xi) (s .eta) (rest (s .negative) (s .digits) (s .value) []) (below (s .words) (good .words-few) h)
+      line-few (s .words) (s .alpha) (s .beta) (s .xi) (s .eta) (rest (negative s) k v []) (below (s .words) (good .words-few) h)
 
-  no-more : (t u : Bool) → eqb (s .words) 4 ≡ t → eqb (s .digits) 0 ≡ u
-      → cond (not t) Malformed (cond u Malformed (Readings (s .alpha) (s .beta) (s .xi) (s .eta) (signed (s .negative) (s .value)))) ≡ lineFrom s [] []
+  no-more : (t u : Bool) → eqb (s .words) 4 ≡ t → ltb (s .digits) oneDigit ≡ u
+      → cond (not t) Malformed (cond u Malformed (Readings (s .alpha) (s .beta) (s .xi) (s .eta) (numberOf (s .minus) (s .digits)))) ≡ lineFrom s k v [] []
   no-more false u e f = sym (few (eqb-false (s .words) 4 e))
   no-more true true e f =
-      sym (spoilt s [] [] (ap (λ k. rest (s .negative) k (s .value) []) (eqb-true (s .digits) 0 f) ∙ rest-empty (s .negative) (s .value)))
-  no-more true false e f = sym (whole (eqb-true (s .words) 4 e) (has-digit (s .digits) f))
+      sym (spoilt s k v [] [] (ap (λ k. rest (negative s) k v []) (none-yet k (good .digits) (ltb-true (s .digits) oneDigit f)) ∙ rest-empty (negative s) v))
+  no-more true false e f =
+      ap (λ n. Readings (s .alpha) (s .beta) (s .xi) (s .eta) (signed (negative s) n)) (value (good .digits))
+      ∙ sym (whole (eqb-true (s .words) 4 e) (has-digit k (good .digits) (ltb-false (s .digits) oneDigit f)))
 
-from : (bs : List ℕ) (s : State) → Good s → finished (steppedBy s bs) ≡ lineFrom s (first (words bs)) (others (words bs))
+from : (bs : List ℕ) (s : State) (k v : ℕ) → Good s k v → finished (steppedBy s bs) ≡ lineFrom s k v (first (words bs)) (others (words bs))
 unfolding first others
-from [] s good =
-    ap (λ t. cond t Malformed (cond (not (eqb (s .words) 4)) Malformed (cond (eqb (s .digits) 0) Malformed (Readings (s .alpha) (s .beta) (s .xi) (s .eta) (signed (s .negative) (s .value)))))) (good .well)
-    ∙ no-more s good (eqb (s .words) 4) (eqb (s .digits) 0) refl refl
-from (b ∷ bs) s good = one-more bs (from bs) s good b (eqb b 32) refl
+from [] s k v good = no-more s k v good (eqb (s .words) 4) (ltb (s .digits) oneDigit) refl refl
+from (b ∷ bs) s k v good = one-more bs (from bs) s k v good b (eqb b 32) refl
 
-start-good : Good start
-start-good = record { well = refl; words-few = omega arith; digits-few = omega arith; value-small = omega arith }
+start-good : Good start 0 0
+start-good = record { words-few = omega arith; digits = empty }
 
 joined-none : (r : Option (List ℤ)) → joined [] r ≡ r
 unfolding joined
@@ -297,6 +296,6 @@ joined-none (some xs) = refl
 pub parsed : (bs : List ℕ) → finished (steppedBy start bs) ≡ parse bs
 unfolding parse lineFrom line held
 parsed bs =
-    from bs start start-good
+    from bs start 0 0 start-good
     ∙ ap five (joined-none (allNumbers (map number (first (words bs) ∷ others (words bs)))))
     ∙ ap (λ ws. five (allNumbers (map number ws))) (sym (has-first bs))

@@ -1,7 +1,7 @@
 // Reading a line of five whole numbers, byte by byte: what is known of the bytes so far is one value, so a line may come in pieces of any size.
 ghost use mathlib.Core.Path.{_≡_};
-ghost use Rattle.lines.specs.Line.{signed};
-ghost use Rattle.lines.specs.State.{start, refused, ended, minus, digit, stepped, finished};
+ghost use Prim.Native.Nat.{_≤_};
+ghost use Rattle.lines.specs.State.{start, numberOf, refused, ended, minus, digit, stepped, finished};
 
 // What a line says: the readings in milliradians, or that it is no line of five numbers.
 pub enum Line {
@@ -15,16 +15,21 @@ pub enum Line {
     Malformed,
 }
 
+// The digits of a word in one number: their value in the lowest 16 bits, and above it a 1 that is ten times as high for each digit. A digit
+// more is one product and one sum, and one test says how many there are.
+const NONE: u64 = 65_536;
+
+const ONE: u64 = 10 * NONE;
+
+const FOUR: u64 = 10_000 * NONE;
+
 // What is known of a line from the bytes so far.
 pub struct State {
-    // No bytes that follow make it a line of five numbers.
-    pub malformed: bool,
-    // How many words have ended.
-    pub words: u8,
-    // The word that has not ended: its sign, how many digits it has, and their value.
-    pub negative: bool,
-    pub digits: u8,
-    pub value: u32,
+    // How many words have ended; five where no bytes that follow make it a line of five numbers.
+    pub words: u64,
+    // The word that has not ended: 1 behind a minus, and its digits.
+    pub minus: u64,
+    pub digits: u64,
     // The numbers of the last four words that have ended.
     pub alpha: i64,
     pub beta: i64,
@@ -33,11 +38,11 @@ pub struct State {
 }
 
 // The number of a word.
-fn signed(negative: bool, value: u32) -> i64
-    ensures { λ r. ⌜ r ≡ signed negative value ⌝ }
+fn number(minus: u64, digits: u64) -> i64
+    ensures { λ r. ⌜ r ≡ numberOf minus digits ⌝ }
 {
-    let plain = value as i64;
-    if negative {
+    let plain = (digits % NONE) as i64;
+    if minus > 0 {
         return -plain;
     }
     plain
@@ -49,22 +54,20 @@ impl State {
         ensures { λ r. ⌜ r ≡ start ⌝ }
     {
         State {
-            malformed: false,
             words: 0,
+            minus: 0,
+            digits: NONE,
             alpha: 0,
             beta: 0,
             xi: 0,
             eta: 0,
-            negative: false,
-            digits: 0,
-            value: 0,
         }
     }
 
     fn refused(mut self) -> State
         ensures { λ r. ⌜ r ≡ refused self ⌝ }
     {
-        self.malformed = true;
+        self.words = 5;
         self
     }
 
@@ -72,22 +75,20 @@ impl State {
     fn ended(self) -> State
         ensures { λ r. ⌜ r ≡ ended self ⌝ }
     {
-        if self.digits == 0 {
+        if self.digits < ONE {
             return self.refused();
         }
         if self.words >= 4 {
             return self.refused();
         }
         State {
-            malformed: self.malformed,
             words: self.words + 1,
+            minus: 0,
+            digits: NONE,
             alpha: self.beta,
             beta: self.xi,
             xi: self.eta,
-            eta: signed(self.negative, self.value),
-            negative: false,
-            digits: 0,
-            value: 0,
+            eta: number(self.minus, self.digits),
         }
     }
 
@@ -95,28 +96,25 @@ impl State {
     fn minus(mut self) -> State
         ensures { λ r. ⌜ r ≡ minus self ⌝ }
     {
-        if self.negative {
+        if self.minus > 0 {
             return self.refused();
         }
-        if self.digits > 0 {
+        if self.digits >= ONE {
             return self.refused();
         }
-        self.negative = true;
+        self.minus = 1;
         self
     }
 
-    // After a digit. Fewer than four digits have a value below 1000; the test keeps a state that no line leads to from passing 32 bits.
-    fn digit(mut self, next: u8) -> State
+    // After a digit, which is not the fifth.
+    fn digit(mut self, next: u64) -> State
+        requires { ⌜ next ≤ 9 ⌝ }
         ensures { λ r. ⌜ r ≡ digit self next ⌝ }
     {
-        if self.digits >= 4 {
+        if self.digits >= FOUR {
             return self.refused();
         }
-        if self.value >= 1000 {
-            return self.refused();
-        }
-        self.digits += 1;
-        self.value = self.value * 10 + next as u32;
+        self.digits = self.digits * 10 + next;
         self
     }
 
@@ -124,32 +122,26 @@ impl State {
     pub fn step(self, byte: u8) -> State
         ensures { λ r. ⌜ r ≡ stepped self byte ⌝ }
     {
+        if byte >= b'0' && byte <= b'9' {
+            return self.digit(byte as u64 - 48);
+        }
         if byte == b' ' {
             return self.ended();
         }
         if byte == b'-' {
             return self.minus();
         }
-        if byte < b'0' {
-            return self.refused();
-        }
-        if byte > b'9' {
-            return self.refused();
-        }
-        self.digit(byte - b'0')
+        self.refused()
     }
 
     // Nothing follows: four words have ended, and the fifth has a digit.
     pub fn finish(self) -> Line
         ensures { λ r. ⌜ r ≡ finished self ⌝ }
     {
-        if self.malformed {
-            return Line::Malformed;
-        }
         if self.words != 4 {
             return Line::Malformed;
         }
-        if self.digits == 0 {
+        if self.digits < ONE {
             return Line::Malformed;
         }
         Line::Readings {
@@ -157,7 +149,7 @@ impl State {
             beta: self.beta,
             xi: self.xi,
             eta: self.eta,
-            zeta: signed(self.negative, self.value),
+            zeta: number(self.minus, self.digits),
         }
     }
 }

@@ -1,12 +1,12 @@
 -- `lines::State::ended` meets its contract: each way out follows the tests of the definition, and the numbers that move up are read back as they were.
 -- Assumes nothing.
 use mathlib.Core.Path.{_≡_, _∙_}
-use borrow.Author.Tests.{eq-eqb, ne-eqb, le-leb, lt-leb}
+use borrow.Author.Tests.{lt-ltb, le-ltb, le-leb, lt-leb}
 use borrow.Author.Needs.{needs, sfits-of}
 use mir.Facts.{toZ-ofZ}
 use mir.Syntax.{w64}
 use mir.Val.{toZ, ofZ}
-use Rattle.lines.specs.Line.{signed}
+use Rattle.lines.specs.State.{numberOf}
 use Rattle.lines.proofs.State.ended.Statement.{statement}
 use Rattle.lines.proofs.State.ended.Tie as tie
 
@@ -14,19 +14,19 @@ refused-requires : tie.Need-refused-requires
 refused-requires c κs = search needs
 
 returns : tie.Need-returns
-returns c = c .refused .ensures ∙ simp (eq-eqb _ _ (c .before .if1 .taken))
+returns c = c .refused .ensures ∙ simp (lt-ltb _ _ (c .before .if1 .taken))
 
 refused-requires-2 : tie.Need-refused-requires-2
 refused-requires-2 c κs = search needs
 
 returns-2 : tie.Need-returns-2
-returns-2 c = c .refused2 .ensures ∙ simp (ne-eqb _ _ (c .before .before .before .if1 .left), le-leb _ _ (c .before .if2 .taken))
+returns-2 c = c .refused2 .ensures ∙ simp (le-ltb _ _ (c .before .before .before .if1 .left), le-leb _ _ (c .before .if2 .taken))
 
 add-t3 : tie.Need-add-t3
 add-t3 c = search needs
 
-signed-requires : tie.Need-signed-requires
-signed-requires c κs = search needs
+number-requires : tie.Need-number-requires
+number-requires c κs = search needs
 
 returns-3 : tie.Need-returns-3
 returns-3 c =
@@ -34,8 +34,8 @@ returns-3 c =
     let beta : toZ w64 (ofZ w64 (s .beta)) ≡ s .beta = search needs in
     let xi : toZ w64 (ofZ w64 (s .xi)) ≡ s .xi = search needs in
     let eta : toZ w64 (ofZ w64 (s .eta)) ≡ s .eta = search needs in
-    let last : toZ w64 (ofZ w64 (c .before .signed .result)) ≡ signed (s .negative) (s .value) = toZ-ofZ (sfits-of {z = c .before .signed .result} (c .before .signed .ok)) ∙ c .before .signed .ensures in
-    simp (ne-eqb _ _ (c .before .before .before .before .before .if1 .left), lt-leb _ _ (c .before .before .before .if2 .left), beta, xi, eta, last)
+    let last : toZ w64 (ofZ w64 (c .before .number .result)) ≡ numberOf (s .minus) (s .digits) = toZ-ofZ (sfits-of {z = c .before .number .result} (c .before .number .ok)) ∙ c .before .number .ensures in
+    simp (le-ltb _ _ (c .before .before .before .before .before .if1 .left), lt-leb _ _ (c .before .before .before .if2 .left), beta, xi, eta, last)
 
 pub ended-spec : {M : Type 1} → statement M
 ended-spec =
@@ -46,5 +46,5 @@ ended-spec =
     refused-requires-2
     returns-2
     add-t3
-    signed-requires
+    number-requires
     returns-3)
