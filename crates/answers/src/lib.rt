@@ -1,6 +1,6 @@
 // Answering lines of readings: for each line the number given back and the six coefficients of a table, in decimal.
 ghost use mathlib.Core.Path.{_≡_};
-ghost use Prim.Native.Nat.{_+_, _≤_};
+ghost use Prim.Native.Nat.{_+_, _<_, _≤_};
 ghost use lib.ListN.{length};
 ghost use Rattle.printing.specs.Spell.{written};
 ghost use Rattle.answers.specs.Answers.{spaced, numbered, lineAnswer, longestValues, longest};
@@ -12,7 +12,7 @@ use layout::cumulus_one::BLOCKS;
 use lines::Line;
 use lines::State;
 use printing::LONGEST_NUMBER;
-use printing::put_digits;
+use printing::put_few;
 use printing::put_number;
 use tables::reading::read_known;
 use tables::soundness::refusal_of;
@@ -62,14 +62,14 @@ fn put_values(values: [i64; BLOCKS], out: &mut [u8], at: usize) -> usize
     place
 }
 
-// A whole answer with its newline.
+// A whole answer with its newline. The number given back has few digits.
 fn put_answer(number: u64, values: [i64; BLOCKS], out: &mut [u8], at: usize) -> usize
-    requires { ⌜ at + longest ≤ length (now out) ⌝ }
+    requires { ⌜ (number < 10000) × (at + longest ≤ length (now out)) ⌝ }
     ensures place { λ r. ⌜ r ≡ at + length (numbered number values) ⌝ }
     ensures output { λ r. ⌜ now (out .exit) ≡ written (now (out .entry)) at (numbered number values) ⌝ }
     ensures room { λ r. ⌜ r ≤ at + longest ⌝ }
 {
-    let behind = put_digits(number, out, at);
+    let behind = put_few(number, out, at);
     let end = put_values(values, out, behind);
     out[end] = b'\n';
     end + 1
@@ -83,8 +83,8 @@ fn put_line(table: &[i64], refused: u64, line: Line, out: &mut [u8], at: usize) 
     ensures room { λ r. ⌜ r ≤ at + longest ⌝ }
 {
     let mut values = [0i64; BLOCKS];
-    match line {
-        Line::Malformed => put_answer(MALFORMED, values, out, at),
+    let number = match line {
+        Line::Malformed => MALFORMED,
         Line::Readings {
             alpha,
             beta,
@@ -93,10 +93,10 @@ fn put_line(table: &[i64], refused: u64, line: Line, out: &mut [u8], at: usize) 
             zeta,
         } => {
             let state = [alpha, beta, xi, eta, zeta];
-            let number = read_known(Model::Cumulus, table, refused, &state, &mut values);
-            put_answer(number, values, out, at)
+            read_known(Model::Cumulus, table, refused, &state, &mut values)
         }
-    }
+    };
+    put_answer(number, values, out, at)
 }
 
 impl Reading {

@@ -84,7 +84,7 @@ fn put_two(n: u64, out: &mut [u8], at: usize)
 }
 
 // The digits of a number of at most four from the place `at` on; gives the place behind them.
-fn put_few(n: u64, out: &mut [u8], at: usize) -> usize
+pub fn put_few(n: u64, out: &mut [u8], at: usize) -> usize
     requires { ⌜ (n < 10000) × (at + length (decimal n) ≤ length (now out)) ⌝ }
     ensures place { λ r. ⌜ r ≡ at + length (decimal n) ⌝ }
     ensures output { λ r. ⌜ now (out .exit) ≡ sets (now (out .entry)) at (decimal n) ⌝ }

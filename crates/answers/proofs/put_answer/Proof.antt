@@ -6,7 +6,7 @@ use Prim.Native.Nat.{_+_, _<_}
 use native.Mathlib.Omega.{arith}
 use lib.ListN.{length, length-set, length-append}
 use Rattle.printing.specs.Spell.{decimal, written}
-use Rattle.printing.proofs.Digits.{decimal-fits}
+use Rattle.printing.proofs.Digits.{decimal-short}
 use Rattle.printing.proofs.Writing.{written-sets, written-append}
 use Rattle.answers.specs.Answers.{spaced}
 use Rattle.answers.proofs.put_answer.Statement.{statement}
@@ -18,20 +18,20 @@ module _ (c : tie.After-slice-known3) where
   start = c .before .before .before .before .before .before .before .before .before
 
   kept : length (c .before .before .put-values .last .1 .0) ≡ length (start .args .out .now)
-  kept = c .before .before .put-values .kept .1 .0 ∙ c .before .before .before .before .before .before .put-digits .kept .1 .0
+  kept = c .before .before .put-values .kept .1 .0 ∙ c .before .before .before .before .before .before .put-few .kept .1 .0
 
   behind-all : c .before .before .put-values .result < length (c .before .before .put-values .last .1 .0)
   behind-all =
-      omega (arith, kept, c .before .before .put-values .ensures .1 .1, c .before .before .before .before .before .before .put-digits .ensures .0, decimal-fits (start .args .number) (start .fits .number .fits), start .pre)
+      omega (arith, kept, c .before .before .put-values .ensures .1 .1, c .before .before .before .before .before .before .put-few .ensures .0, decimal-short 3 (start .args .number) (start .pre .0), start .pre .1)
 
-put-digits-requires : tie.Need-put-digits-requires
-put-digits-requires c κs = let start = c .before .before in omega (arith, decimal-fits (start .args .number) (start .fits .number .fits), start .pre)
+put-few-requires : tie.Need-put-few-requires
+put-few-requires c κs = let start = c .before .before in (start .pre .0, omega (arith, decimal-short 3 (start .args .number) (start .pre .0), start .pre .1))
 
 put-values-requires : tie.Need-put-values-requires
 put-values-requires c κs =
     let start = c .before .before .before .before .before .before in
-    let digits = c .before .before .before .put-digits in
-    omega (arith, decimal-fits (start .args .number) (start .fits .number .fits), start .pre, digits .ensures .0, digits .kept .1 .0)
+    let digits = c .before .before .before .put-few in
+    omega (arith, decimal-short 3 (start .args .number) (start .pre .0), start .pre .1, digits .ensures .0, digits .kept .1 .0)
 
 slice-write-out : tie.Need-slice-write-out
 slice-write-out c = behind-all c
@@ -45,19 +45,19 @@ same-length c = length-set (c .before .before .put-values .last .1 .0) (c .befor
 returns : tie.Need-returns
 returns c =
     let a = start c .args in
-    let digits = c .before .before .before .before .before .before .put-digits in
+    let digits = c .before .before .before .before .before .before .put-few in
     let values = c .before .before .put-values in
     let D = decimal (a .number) in
     let W = spaced (a .values) in
     let place : values .result ≡ a .at + length (D ++ W) = omega (arith, values .ensures .0, digits .ensures .0, length-append D W) in
     let both : values .last .1 .0 ≡ written (a .out .now) (a .at) (D ++ W) =
-    values .ensures .1 .0 ∙ ap₂ (λ o p. written o p W) (digits .ensures .1) (digits .ensures .0) ∙ written-append (a .out .now) (a .at) D W (omega (arith, behind-all c, kept c)) in (
+    values .ensures .1 .0 ∙ ap₂ (λ o p. written o p W) (digits .ensures .1 ∙ written-sets (a .out .now) (a .at) D (omega (arith, decimal-short 3 (a .number) (start c .pre .0), start c .pre .1))) (digits .ensures .0) ∙ written-append (a .out .now) (a .at) D W (omega (arith, behind-all c, kept c)) in (
       omega (arith, length-append (D ++ W) (10 ∷ [])),
       (
         written-sets (values .last .1 .0) (values .result) (10 ∷ []) (omega (arith, behind-all c))
             ∙ ap₂ (λ o p. written o p (10 ∷ [])) both place
             ∙ written-append (a .out .now) (a .at) (D ++ W) (10 ∷ []) (omega (arith, length-append (D ++ W) (10 ∷ []), behind-all c, kept c)),
-        omega (arith, values .ensures .1 .1, digits .ensures .0, decimal-fits (a .number) (start c .fits .number .fits)),
+        omega (arith, values .ensures .1 .1, digits .ensures .0, decimal-short 3 (a .number) (start c .pre .0)),
       ),
     )
 
@@ -65,7 +65,7 @@ pub put-answer-spec : {M : Type 1} → statement M
 put-answer-spec =
     tie.close
     (tie.spec
-    put-digits-requires
+    put-few-requires
     put-values-requires
     slice-write-out
     add-result

@@ -1,8 +1,10 @@
 -- `answers::put_line` meets its contract: the number and the coefficients are those that the table gives back, or 31 and zeros.
 -- Assumes nothing.
-use mathlib.Core.Path.{_≡_, refl, sym, ap, ap₂, _∙_}
+use mathlib.Core.Path.{_≡_, refl, sym, ap, ap₂, subst, _∙_}
+use mathlib.Core.Logic.{⊎-elim}
 use mathlib.Core.List.{[], _∷_}
-use Prim.Native.Nat.{_+_}
+use Prim.Native.Nat.{_+_, _<_}
+use native.Mathlib.Omega.{arith}
 use borrow.Author.Needs.{needs}
 use lib.IntN.{ℤ}
 use lib.ListN.{length}
@@ -13,6 +15,7 @@ use Rattle.layout.specs.Reading.{readings, readNumber, readOutput}
 use Rattle.printing.specs.Spell.{written}
 use Rattle.tables.proofs.Steps.{into-room}
 use Rattle.answers.specs.Answers.{numbered, zeros, lineAnswer}
+use Rattle.answers.proofs.Numbers.{read-few}
 use Rattle.answers.proofs.put_line.Statement.{statement}
 use Rattle.answers.proofs.put_line.Tie as tie
 
@@ -24,9 +27,6 @@ start c = c .before .before .before .before .before .before
 
 enum-told : tie.Need-enum-told
 enum-told c = search needs
-
-put-answer-requires : tie.Need-put-answer-requires
-put-answer-requires c κs = search needs
 
 enum-known-line : tie.Need-enum-known-line
 enum-known-line c = search needs
@@ -42,22 +42,6 @@ read-known-requires c κs =
     let a = start c in
     (a .pre .0 ∙ into-room cumulus (a .args .table .now) (length zeros) refl, refl)
 
-put-answer-requires-2 : tie.Need-put-answer-requires-2
-put-answer-requires-2 c κs = search needs
-
-same-length : tie.Need-same-length
-same-length c = search needs
-
-returns : tie.Need-returns
-unfolding lineAnswer
-returns c =
-    let a = c .before .before .before .before .before .before .before .args in
-    let answer = c .before .before .put-answer in
-    let malformed = c .before .before .before .before .enum-told .given .1 in (
-      answer .ensures .0 ∙ ap (λ l. a .at + length (lineAnswer (a .table .now) l)) (sym malformed),
-      (answer .ensures .1 .0 ∙ ap (λ l. written (a .out .now) (a .at) (lineAnswer (a .table .now) l)) (sym malformed), answer .ensures .1 .1),
-    )
-
 -- the five readings, as they are handed on
 same-state : (c : tie.After-known-told) → let v = c .before .line .given .0 in
     toZ w64 (ofZ w64 (v .0)) ∷ toZ w64 (ofZ w64 (v .1 .0)) ∷ toZ w64 (ofZ w64 (v .1 .1 .0)) ∷ toZ w64 (ofZ w64 (v .1 .1 .1 .0)) ∷ toZ w64 (ofZ w64 (v .1 .1 .1 .1 .0)) ∷ []
@@ -71,22 +55,41 @@ same-state c =
     let zeta : toZ w64 (ofZ w64 (v .1 .1 .1 .1 .0)) ≡ v .1 .1 .1 .1 .0 = search needs in
     five alpha beta xi eta zeta
 
-same-length-2 : tie.Need-same-length-2
-same-length-2 c = search needs
+-- what is put: the number given back, and the coefficients
+abbrev at : tie.At-match-came → tie.Start
+at c = c .before .before
 
-returns-2 : tie.Need-returns-2
+few : (c : tie.At-match-came) → c .match .number < 10000
+few c =
+    ⊎-elim
+    (λ w. subst (λ n. n < 10000) (sym (w .3)) (omega arith))
+    (λ w. subst (λ n. n < 10000) (sym (w .8 ∙ w .5 .ensures .0)) (read-few (at c .args .table .now) _ zeros))
+    (c .match .came)
+
+whole : (c : tie.At-match-came) → numbered (c .match .number) (c .match .values) ≡ lineAnswer (at c .args .table .now) (at c .args .line)
 unfolding lineAnswer
-returns-2 c =
-    let read = c .before .before .before .before .before in
-    let a = start (read .before) .args in
-    let answer = c .before .before .put-answer2 in
-    let line = read .before .before .before .before .line .given in
-    let same = same-state (read .before .before .before) in
-    let number = read .read-known .ensures .0 ∙ ap (λ x. readNumber cumulus (a .table .now) (readings x) zeros) same in
-    let values = read .read-known .ensures .1 ∙ ap (λ x. readOutput cumulus (a .table .now) (readings x) zeros) same in
-    let whole = ap₂ numbered number values ∙ ap (lineAnswer (a .table .now)) (sym (line .1)) in (
-      answer .ensures .0 ∙ ap (λ bytes. a .at + length bytes) whole,
-      (answer .ensures .1 .0 ∙ ap (written (a .out .now) (a .at)) whole, answer .ensures .1 .1),
+whole c =
+    let t = at c .args .table .now in
+    ⊎-elim
+    (λ w. ap₂ numbered (w .3) (w .2) ∙ ap (lineAnswer t) (sym (w .1 .given .1)))
+    (λ w. let same = same-state (record { before = record { before = record { before = c .before; match = w .0 }; line = w .1 }; known-told = w .2 }) in
+    ap₂ numbered (w .8 ∙ w .5 .ensures .0 ∙ ap (λ x. readNumber cumulus t (readings x) zeros) same) (w .7 ∙ w .5 .ensures .1 ∙ ap (λ x. readOutput cumulus t (readings x) zeros) same)
+    ∙ ap (lineAnswer t) (sym (w .1 .given .1)))
+    (c .match .came)
+
+put-answer-requires : tie.Need-put-answer-requires
+put-answer-requires c κs = (few (c .before), at (c .before) .pre .1)
+
+same-length : tie.Need-same-length
+same-length c = search needs
+
+returns : tie.Need-returns
+returns c =
+    let m = c .before .before .before .before in
+    let a = at m .args in
+    let answer = c .before .before .put-answer in (
+      answer .ensures .0 ∙ ap (λ bytes. a .at + length bytes) (whole m),
+      (answer .ensures .1 .0 ∙ ap (written (a .out .now) (a .at)) (whole m), answer .ensures .1 .1),
     )
 
 pub put-line-spec : {M : Type 1} → statement M
@@ -94,13 +97,10 @@ put-line-spec =
     tie.close
     (tie.spec
     enum-told
-    put-answer-requires
     enum-known-line
     slice-aggregate-read-known
     slice-aggregate-read-known-2
     read-known-requires
-    put-answer-requires-2
+    put-answer-requires
     same-length
-    returns
-    same-length-2
-    returns-2)
+    returns)
