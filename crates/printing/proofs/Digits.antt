@@ -1,6 +1,6 @@
 -- The decimal digits of a number, from its quotient and remainder by ten.
 --   decimal-one, decimal-more   a number below ten, and from ten on
---   decimal-two, decimal-three, decimal-four   a number of so many digits
+--   decimal-two, decimal-three, decimal-four, decimal-eight   a number of so many digits
 --   two-behind, four-behind, eight-behind      a number of more digits than so many
 --   length-behind               dividing by a power of ten takes as many digits away
 --   length-between              how many digits a number between two powers of ten has
@@ -108,6 +108,10 @@ decimal-four n h l =
     two-behind n (omega arith)
     ∙ ap (λ ds. ds ++ (48 + n % 100 / 10) ∷ (48 + n % 10) ∷ []) (decimal-two (n / 100) (omega arith) (omega arith))
     ∙ ap₂ (λ a b. (48 + a) ∷ (48 + n / 100 % 10) ∷ (48 + b) ∷ (48 + n % 10) ∷ []) (omega arith) (omega arith)
+
+pub decimal-eight : (n : ℕ) → 10000000 ≤ n → n < 100000000 → decimal n ≡ eight n
+decimal-eight n h l =
+    four-behind n (omega arith) ∙ ap (λ ds. ds ++ four (n % 10000)) (decimal-four (n / 10000) (omega arith) (omega arith))
 
 pub length-behind : (k n : ℕ) → 10 ^ k ≤ n → length (decimal n) ≡ k + length (decimal (n / 10 ^ k))
 length-behind zero n h = omega (arith, ap (λ m. length (decimal m)) (div-one n))

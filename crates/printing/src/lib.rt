@@ -106,12 +106,16 @@ pub fn put_few(n: u64, out: &mut [u8], at: usize) -> usize
     at + 4
 }
 
-// The digits of a number of at most eight from the place `at` on; gives the place behind them.
+// The digits of a number of at most eight from the place `at` on; gives the place behind them. Most have eight.
 fn put_short(n: u64, out: &mut [u8], at: usize) -> usize
     requires { ⌜ (n < 100000000) × (at + length (decimal n) ≤ length (now out)) ⌝ }
     ensures place { λ r. ⌜ r ≡ at + length (decimal n) ⌝ }
     ensures output { λ r. ⌜ now (out .exit) ≡ sets (now (out .entry)) at (decimal n) ⌝ }
 {
+    if n >= 10_000_000 {
+        put_eight(n, out, at);
+        return at + 8;
+    }
     if n < 10_000 {
         return put_few(n, out, at);
     }
@@ -127,20 +131,24 @@ pub fn put_digits(n: u64, out: &mut [u8], at: usize) -> usize
     ensures place { λ r. ⌜ r ≡ at + length (decimal n) ⌝ }
     ensures output { λ r. ⌜ now (out .exit) ≡ written (now (out .entry)) at (decimal n) ⌝ }
 {
-    if n < 100_000_000 {
-        return put_short(n, out, at);
-    }
     let high = n / 100_000_000;
-    let low = n % 100_000_000;
-    if high < 100_000_000 {
-        let i = put_short(high, out, at);
-        put_eight(low, out, i);
+    if high >= 100_000_000 {
+        let highest = high / 100_000_000;
+        let i = put_few(highest, out, at);
+        put_eight(high - 100_000_000 * highest, out, i);
+        put_eight(n - 100_000_000 * high, out, i + 8);
+        return i + 16;
+    }
+    let mut first = n;
+    if high > 0 {
+        first = high;
+    }
+    let i = put_short(first, out, at);
+    if high > 0 {
+        put_eight(n - 100_000_000 * high, out, i);
         return i + 8;
     }
-    let i = put_few(high / 100_000_000, out, at);
-    put_eight(high % 100_000_000, out, i);
-    put_eight(low, out, i + 8);
-    i + 16
+    i
 }
 
 // A number from the place `at` on; gives the place behind it.
