@@ -2,7 +2,7 @@
 --   hundreds-of-two                            two numbers of four digits divided by a hundred at once
 --   unpacked-packed, four-bytes, eight-bytes   the bytes of a word are those that it was made of
 --   four-covered, four-wide, four-word         the word of four digits: what is taken away is there, fits, and leaves the digits
---   split-pairs, split-fits                    the pairs of eight digits from their hundreds
+--   fours-covered, fours-wide, hundreds-covered, hundreds-wide, split-pairs   the pairs of eight digits from their fours and hundreds, as the word of four
 --   pairs-wide, tens-covered, tens-wide, room, eight-word   the word of eight digits, as that of four
 use mathlib.Core.Path.{_≡_, refl, sym, ap, ap₂, subst, _∙_}
 use mathlib.Core.List.{List, [], _∷_, _++_}
@@ -144,13 +144,58 @@ module _ (n : ℕ) (h : n < 10000) where
       ap (λ t. 256 * pairs n - 2559 * t + 808464432) tens-of-pairs
       ∙ rest (256 * pairs n) (2559 * tens n) 808464432 (packed (four n)) (four-covers n) (digits-word n h)
 
+-- ════ the pairs of eight digits: the numbers of the first four and of the last, side by side, and their hundreds
+abbrev fours : ℕ → ℕ
+fours n = 4294967296 * n - 42949672959999 * (n * 109951163 / 1099511627776)
+
+abbrev hundreds : ℕ → ℕ
+hundreds n = bitAnd (fours n * 5243 / 524288) 545460846719
+
+ten-thousandth : (n : ℕ) → n < 100000000 → n * 109951163 / 1099511627776 ≡ n / 10000
+ten-thousandth n h = omega arith
+
+-- x and y in one number, and their quotients taken out of it
+taken-out : (x y h : ℕ) → h ≡ x / 100 + 4294967296 * (y / 100) → (6553599 * h ≤ 65536 * (x + 4294967296 * y)) × (65536 * (x + 4294967296 * y) - 6553599 * h ≡ pairs x + 4294967296 * pairs y)
+taken-out x y h e = (omega arith, omega arith)
+
+side-by-side : (x y : ℕ) → x < 10000 → y < 10000 → ((x + 4294967296 * y) * 5243 < 18446744073709551616) × (65536 * (x + 4294967296 * y) < 18446744073709551616)
+side-by-side x y h l = (omega arith, omega arith)
+
+module _ (n : ℕ) (h : n < 100000000) where
+  pub fours-covered : 42949672959999 * (n * 109951163 / 1099511627776) ≤ 4294967296 * n
+  fours-covered = subst (λ x. 42949672959999 * x ≤ 4294967296 * n) (sym (ten-thousandth n h)) (omega arith)
+
+  two-fours : fours n ≡ n / 10000 + 4294967296 * (n % 10000)
+  two-fours = ap (λ x. 4294967296 * n - 42949672959999 * x) (ten-thousandth n h) ∙ omega arith
+
+  two-hundreds : hundreds n ≡ n / 10000 / 100 + 4294967296 * (n % 10000 / 100)
+  two-hundreds =
+      ap (λ f. bitAnd (f * 5243 / 524288) 545460846719) two-fours
+      ∙ hundreds-of-two (n / 10000) (n % 10000) (omega arith) (omega arith)
+
+  pub fours-wide : (fours n * 5243 < 18446744073709551616) × (65536 * fours n < 18446744073709551616)
+  fours-wide =
+      subst
+      (λ f. (f * 5243 < 18446744073709551616) × (65536 * f < 18446744073709551616))
+      (sym two-fours)
+      (side-by-side (n / 10000) (n % 10000) (omega arith) (omega arith))
+
+  pub hundreds-covered : 6553599 * hundreds n ≤ 65536 * fours n
+  hundreds-covered =
+      subst
+      (λ f. 6553599 * hundreds n ≤ 65536 * f)
+      (sym two-fours)
+      (taken-out (n / 10000) (n % 10000) (hundreds n) two-hundreds .0)
+
+  pub hundreds-wide : 6553599 * hundreds n < 18446744073709551616
+  hundreds-wide = tens-fit (6553599 * hundreds n) (65536 * fours n) hundreds-covered (fours-wide .1)
+
+  pub split-pairs : 65536 * fours n - 6553599 * hundreds n ≡ pairs (n / 10000) + 4294967296 * pairs (n % 10000)
+  split-pairs =
+      ap (λ f. 65536 * f - 6553599 * hundreds n) two-fours
+      ∙ taken-out (n / 10000) (n % 10000) (hundreds n) two-hundreds .1
+
 -- ════ eight digits at once: x and y are the numbers of the first four and of the last
-unmix : (x y h : ℕ) → h ≡ x / 100 + 4294967296 * (y / 100) → x + 4294967296 * y - 100 * h ≡ x % 100 + 4294967296 * (y % 100)
-unmix x y h e = omega arith
-
-regroup : (p q r s : ℕ) → p + 4294967296 * r + 65536 * (q + 4294967296 * s) ≡ p + 65536 * q + 4294967296 * (r + 65536 * s)
-regroup p q r s = omega arith
-
 nest : (p q r s : ℕ) → p + 65536 * q + 4294967296 * (r + 65536 * s) ≡ p + 65536 * (q + 65536 * (r + 65536 * s))
 nest p q r s = omega arith
 
@@ -170,19 +215,9 @@ word a b s t u v h l e f = omega arith
 packed-eight : (a b c d e f g h : ℕ) → packed (a ∷ b ∷ c ∷ d ∷ []) + 4294967296 * packed (e ∷ f ∷ g ∷ h ∷ []) ≡ packed (a ∷ b ∷ c ∷ d ∷ e ∷ f ∷ g ∷ h ∷ [])
 packed-eight a b c d e f g h = omega arith
 
-fits : (p : ℕ) → p < 30000000000000000 → p < 18446744073709551616
-fits p h = omega arith
-
 module _ (x y : ℕ) (hx : x < 10000) (hy : y < 10000) where
   both-below : pairs x + 4294967296 * pairs y < 30000000000000000
   both-below = two-below (pairs x) (pairs y) (four-below x hx) (four-below y hy)
-
-  module _ (h : ℕ) (e : h ≡ x / 100 + 4294967296 * (y / 100)) where
-    pub split-pairs : h + 65536 * (x + 4294967296 * y - 100 * h) ≡ pairs x + 4294967296 * pairs y
-    split-pairs = ap₂ (λ a b. a + 65536 * b) e (unmix x y h e) ∙ regroup (x / 100) (x % 100) (y / 100) (y % 100)
-
-    pub split-fits : h + 65536 * (x + 4294967296 * y - 100 * h) < 18446744073709551616
-    split-fits = fits (h + 65536 * (x + 4294967296 * y - 100 * h)) (subst (λ m. m < 30000000000000000) (sym split-pairs) both-below)
 
   module _ (p : ℕ) (e : p ≡ pairs x + 4294967296 * pairs y) where
     pub pairs-wide : (p * 103 < 18446744073709551616) × (256 * p < 18446744073709551616) × (256 * p + 3472328296227680304 < 18446744073709551616)

@@ -21,15 +21,17 @@ fn four_bytes(n: u64) -> u64
     256 * pairs - 2_559 * tens + 0x3030_3030
 }
 
-// The four pairs of digits of a number of eight, 16 bits apart, the first lowest. Two numbers below 10,000 that are 32 bits
-// apart are divided by 100 at once: for these a hundredth is 5,243 / 2^19, and the mask drops what the upper one leaves below.
+// The four pairs of digits of a number of eight, 16 bits apart, the first lowest. For these numbers a ten-thousandth is 109,951,163 / 2^40. What it
+// leaves is put 32 bits above it: x + 2^32(n - 10,000x) = 2^32 n - 42,949,672,959,999x. Two numbers below 10,000 that are 32 bits apart are divided
+// by 100 at once in the same way: for these a hundredth is 5,243 / 2^19, and the mask drops what the upper one leaves below.
 fn eight_pairs(n: u64) -> u64
     requires { ⌜ n < 100000000 ⌝ }
     ensures { λ r. ⌜ r ≡ pairs (n / 10000) + 4294967296 * pairs (n % 10000) ⌝ }
 {
-    let fours = n / 10_000 + 0x1_0000_0000 * (n % 10_000);
+    let upper = n * 109_951_163 / 0x100_0000_0000;
+    let fours = 0x1_0000_0000 * n - 42_949_672_959_999 * upper;
     let hundreds = fours * 5_243 / 524_288 & 0x7f_0000_007f;
-    hundreds + 65_536 * (fours - 100 * hundreds)
+    65_536 * fours - 6_553_599 * hundreds
 }
 
 // The eight digits of a number as the bytes of one word, the first lowest: as with four, and the four pairs are divided by ten

@@ -1,55 +1,47 @@
 -- `printing::eight_pairs` meets its contract. Assumes nothing.
-use Prim.Native.Nat.{_+_, _*_, _/_, _%_, _<_}
 use native.Mathlib.Omega.{arith}
-use lib.Bits.{bitAnd}
-use Rattle.printing.proofs.Words.{hundreds-of-two, split-pairs, split-fits}
+use Rattle.printing.proofs.Words.{fours-covered, fours-wide, hundreds-covered, hundreds-wide, split-pairs}
 use borrow.Author.Needs.{needs}
 use Rattle.printing.proofs.eight_pairs.Statement.{statement}
 use Rattle.printing.proofs.eight_pairs.Tie as tie
 
+mul-upper : tie.Need-mul-upper
+mul-upper c = search needs
+
 mul-fours : tie.Need-mul-fours
 mul-fours c = search needs
 
-add-fours : tie.Need-add-fours
-add-fours c = search needs
+mul-fours-2 : tie.Need-mul-fours-2
+mul-fours-2 c = omega (arith, c .pre, fours-covered (c .args .n) (c .pre))
+
+sub-fours : tie.Need-sub-fours
+sub-fours c = fours-covered (c .args .n) (c .pre)
 
 mul-hundreds : tie.Need-mul-hundreds
-mul-hundreds c = search needs
+mul-hundreds c = record { fits = fours-wide (c .args .n) (c .pre) .0 }
 
 mul-result : tie.Need-mul-result
-mul-result c = omega (arith, hundreds-of-two (c .args .n / 10000) (c .args .n % 10000) (omega arith) (omega arith))
-
-sub-result : tie.Need-sub-result
-sub-result c = omega (arith, hundreds-of-two (c .args .n / 10000) (c .args .n % 10000) (omega arith) (omega arith))
+mul-result c = record { fits = fours-wide (c .args .n) (c .pre) .1 }
 
 mul-result-2 : tie.Need-mul-result-2
-mul-result-2 c = omega (arith, hundreds-of-two (c .args .n / 10000) (c .args .n % 10000) (omega arith) (omega arith))
+mul-result-2 c = record { fits = hundreds-wide (c .args .n) (c .pre) }
 
-add-result : tie.Need-add-result
-add-result c =
-    let x = c .args .n / 10000 in
-    let y = c .args .n % 10000 in
-    let hx : c .args .n / 10000 < 10000 = omega arith in
-    let hy : c .args .n % 10000 < 10000 = omega arith in
-    record { fits = split-fits x y hx hy (bitAnd ((x + 4294967296 * y) * 5243 / 524288) 545460846719) (hundreds-of-two x y hx hy) }
+sub-result : tie.Need-sub-result
+sub-result c = hundreds-covered (c .args .n) (c .pre)
 
 returns : tie.Need-returns
-returns c =
-    let x = c .args .n / 10000 in
-    let y = c .args .n % 10000 in
-    let hx : c .args .n / 10000 < 10000 = omega arith in
-    let hy : c .args .n % 10000 < 10000 = omega arith in
-    split-pairs x y hx hy (bitAnd ((x + 4294967296 * y) * 5243 / 524288) 545460846719) (hundreds-of-two x y hx hy)
+returns c = split-pairs (c .args .n) (c .pre)
 
 pub eight-pairs-spec : {M : Type 1} → statement M
 eight-pairs-spec =
     tie.close
     (tie.spec
+    mul-upper
     mul-fours
-    add-fours
+    mul-fours-2
+    sub-fours
     mul-hundreds
     mul-result
-    sub-result
     mul-result-2
-    add-result
+    sub-result
     returns)
