@@ -153,16 +153,19 @@ pub fn put_digits(n: u64, out: &mut [u8], at: usize) -> usize
     i
 }
 
-// A number from the place `at` on; gives the place behind it.
+// A number from the place `at` on; gives the place behind it. The digits are put in one place for either sign, so that the code for them is there once.
 pub fn put_number(x: i64, out: &mut [u8], at: usize) -> usize
     requires { ⌜ at + longestNumber ≤ length (now out) ⌝ }
     ensures place { λ r. ⌜ r ≡ at + length (spell x) ⌝ }
     ensures output { λ r. ⌜ now (out .exit) ≡ written (now (out .entry)) at (spell x) ⌝ }
 {
-    let n = whole::magnitude(x);
-    if x < 0 {
+    let mut start = at;
+    let n = if x < 0 {
         out[at] = b'-';
-        return put_digits(n, out, at + 1);
-    }
-    put_digits(n, out, at)
+        start = at + 1;
+        whole::magnitude(x)
+    } else {
+        x as u64
+    };
+    put_digits(n, out, start)
 }
