@@ -1,6 +1,6 @@
 """Sections about the desk itself: what its commands do with the spaces, and every kind of line that it does not understand."""
 
-from desk import COMMANDS, LONGEST_LINE, MOST_NUMBERS, SPACE_COUNT, natural, pattern, whole
+from desk import COMMANDS, LONGEST_LINE, MOST_NUMBERS, SPACE_COUNT, SPACE_WORDS, natural, pattern, whole
 from draws import I64_MAX, I64_MIN, MASK
 from gtm_model import GTM
 from makers import ZEROS
@@ -211,7 +211,7 @@ def words_that_are_no_numbers(script, _):
 def spaces_that_are_none(script, _):
     known_spaces(script)
     for words, place, word_name, _ in every_word():
-        if word_name in ("SPACE", "INTO"):
+        if word_name in SPACE_WORDS:
             for space in (b"9", b"10", b"11", b"256", b"4294967296", b"18446744073709551615", b"09", b"010"):
                 script.line(with_word(words, place, space))
     sum_all(script)
@@ -227,6 +227,8 @@ def reasons_in_their_order(script, _):
         b"floats 10 0 0 0 0 x", b"floats 10 7ff0000000000000 0 0 0 0",
         b"microradians 321 0 0 0 0 0", b"microradians 321 1000001 0 0 0 0", b"microradians 321 0 0 0 0 x", b"microradians 321 0 0 0 0",
         b"microradian 321 0 0 0 0 0",
+        b"many 10 0 321 0", b"many 0 10 321 0", b"many 0 0 321 10", b"many 0 0 321 0", b"many 10 0 x 0", b"many 0 10 321",
+        b"many 0 0 321 10 0", b"mnay 10 0 321 0",
         b"gtm_publish 10 x", b"gtm_publish x", b"gtm_publsh 10",
         b"gtm_move 10 x 0 0", b"gtm_move 10 9 0 10", b"gtm_move 0 x 0 10", b"gtm_move 10 0 0", b"gtm_move 10 0 0 0 0",
         b"gtm_read 10 321 0 0", b"gtm_read 0 321 0 0", b"gtm_read 0 321 1001 0", b"gtm_read 10 321 0 x", b"gtm_read 10 321 0",
@@ -295,7 +297,7 @@ def names_of_commands(script, _):
             script.line(parted)
     for line in (b"gtm", b"gtm 0", b"gtm_", b"gtm_ 0", b"gtm publish 0", b"gtm _publish 0", b"gtm_ publish 0", b"gtmpublish 0",
                  b"gtm-publish 0", b"GTM_publish 0", b"_publish 0", b"publish_gtm 0", b"gtm_floats 0 0 0", b"gtm_microradians 3 0 0",
-                 b"gtm_sum 0", b"gtm_gtm_read 0 3 0 0"):
+                 b"gtm_many 0 0 0 0", b"gtm_sum 0", b"gtm_gtm_read 0 3 0 0"):
         script.line(line)
     script.line(b"sum 00000000000000000000000000000000000000009")
     script.line(b"   sum    9")

@@ -95,8 +95,9 @@ def lent(length):
     return [PATTERN + place for place in range(length)]
 
 
-def refusal(number, room):
-    return "%d %s" % (number, "untouched" if room == lent(len(room)) else "touched")
+def refusal(number, *rooms):
+    """What is said after a refusal of an operation that was lent these rooms."""
+    return "%d %s" % (number, "untouched" if all(room == lent(len(room)) for room in rooms) else "touched")
 
 
 def spaced(numbers):
@@ -113,12 +114,12 @@ class Desk:
 
     # operations
 
-    def write(self, into, operation):
-        """Lend a room as long as the space, which becomes what was written with a 0."""
+    def write(self, into, operation, *others):
+        """Lend a room as long as the space, which becomes what was written with a 0; others are rooms that were lent besides."""
         room = lent(len(self.spaces[into]))
         number = operation(room)
         if number != tables.DONE:
-            return refusal(number, room)
+            return refusal(number, room, *others)
         self.spaces[into] = tuple(room)
         return "0 wrote %d sum %d" % (len(room), checksum(self.spaces[into]))
 
@@ -155,6 +156,14 @@ class Desk:
 
     def microradians(self, length, *readings):
         return self.values(length, lambda room: fixed_point.read(readings, room))
+
+    def many(self, space, states, count, into):
+        """What was written, and with a 0 the number of each state behind it."""
+        if count > MOST_NUMBERS:
+            return NO_ROOM
+        table, readings, numbers = self.spaces[space], self.spaces[states], lent(count)
+        answer = self.write(into, lambda room: tables.read_many(CUMULUS, table, readings, numbers, room), numbers)
+        return spaced([answer, "gave"] + numbers) if answer.startswith("0 ") else answer
 
     def gtm_publish(self, into):
         return self.published(GTM, into)
@@ -224,6 +233,10 @@ class Desk:
         return answer if isinstance(answer, bytes) else answer.encode()
 
 
+# what words stand for spaces
+SPACE_WORDS = ("SPACE", "STATES", "INTO")
+
+
 class Command:
     """One command: its name, which is that of what runs it, and its words with what each has to be."""
 
@@ -243,7 +256,7 @@ class Command:
         return None if None in values else values
 
     def spaces_in(self, values):
-        return [value for name, value in zip(self.names, values) if name in ("SPACE", "INTO")]
+        return [value for name, value in zip(self.names, values) if name in SPACE_WORDS]
 
 
 COMMANDS = {command.name.encode(): command for command in (
@@ -252,6 +265,7 @@ COMMANDS = {command.name.encode(): command for command in (
     Command("read", "SPACE ROOM ALPHA BETA XI ETA ZETA"),
     Command("floats", "SPACE ALPHA BETA XI ETA ZETA", pattern),
     Command("microradians", "ROOM ALPHA BETA XI ETA ZETA"),
+    Command("many", "SPACE STATES COUNT INTO"),
     Command("gtm_publish", "INTO"),
     Command("gtm_move", "SPACE VARIABLE SHIFT INTO"),
     Command("gtm_read", "SPACE ROOM ALPHA ETA"),

@@ -12,7 +12,7 @@ from gtm_model import GTM
 from model import CUMULUS, READ_LENGTH
 
 TITLE = b"## "
-OPERATIONS = ("publish", "move", "read", "floats", "microradians", "gtm_publish", "gtm_move", "gtm_read")
+OPERATIONS = ("publish", "move", "read", "floats", "microradians", "many", "gtm_publish", "gtm_move", "gtm_read")
 # what the names of a shape's operations begin with
 PREFIXES = {CUMULUS: "", GTM: "gtm_"}
 
@@ -69,6 +69,9 @@ class Script:
 
     def microradians(self, readings, room=READ_LENGTH):
         self.tell("microradians", room, *readings)
+
+    def many(self, space, states, count, into):
+        self.tell("many", space, states, count, into)
 
     # spaces
 

@@ -7,11 +7,13 @@ import drawn
 import floats
 import gtm
 import listed
+import many
 import microradians
 from draws import Generator
 from script import TITLE, Script
 
-SECTIONS = listed.SECTIONS + drawn.SECTIONS + floats.SECTIONS + microradians.SECTIONS + gtm.SECTIONS + commands.SECTIONS
+SECTIONS = (listed.SECTIONS + drawn.SECTIONS + floats.SECTIONS + microradians.SECTIONS + many.SECTIONS + gtm.SECTIONS
+            + commands.SECTIONS)
 
 
 def seeded_by(title):

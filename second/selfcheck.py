@@ -5,6 +5,7 @@ Run it alone; it ends with one line when every assertion holds.
 
 import struct
 from fractions import Fraction
+from itertools import product
 
 import desk
 import door
@@ -16,11 +17,11 @@ import microradians
 import tables
 import trimcard
 from desk import lent
-from draws import Generator
+from draws import I64_MAX, Generator
 from gtm_model import GTM
 from makers import (
     NARROW_ALPHA, PROMISED_SIZES, SPECIAL_BITS, any_variable, filling_place, full_number, good_limits, inside_float_state,
-    inside_state, last_accepted, move_factor_at, one_in_each_block, random_table, rest_of_cap, shifted, with_reading,
+    inside_state, last_accepted, move_factor_at, one_in_each_block, random_table, rest_of_cap, shifted, spoil_state, with_reading,
 )
 from model import BLOCK_COUNT, CUMULUS, EQUATIONS_OF_BLOCK, FINE_CUT, FIRST_BLOCK, GROUPS, PRINTED, PUBLISHED_TABLE
 from roundings import half_away, half_even
@@ -513,6 +514,45 @@ def check_halves_in_microradians():
         assert min(halves) < 0 < max(halves)
 
 
+# ----------------------------------------------------------------- many states
+
+ENVELOPE = ((-150, 1000), (-500, 500), (-200, 200), (-400, 400), (-500, 500))
+
+
+def read_many(table, states, count, answers):
+    """The number, and the rooms, which a refusal leaves as they were."""
+    numbers, output = lent(count), lent(answers)
+    number = tables.read_many(CUMULUS, table, states, numbers, output)
+    assert number == 0 or (numbers, output) == (lent(count), lent(answers))
+    return number, numbers, output
+
+
+def check_many_states():
+    """Each state against the printed equations, whatever those beside it are: a refused one has its number and zeros."""
+    gen = Generator(110)
+    for count in (0, 1, 2, 7, 53, 150):
+        states = [inside_state(gen, CUMULUS, T) for _ in range(count)]
+        states = [state if gen.take(0, 2) else spoil_state(gen, CUMULUS, T, state) for state in states]
+        number, numbers, output = read_many(T, sum(states, []), count, 6 * count)
+        assert number == 0
+        for k, state in enumerate(states):
+            outside = [11 + v for v, (low, high) in enumerate(ENVELOPE) if not low <= state[v] <= high]
+            exact = printed_values(state[0] <= 313, [Fraction(reading, 1000) for reading in state])
+            assert numbers[k] == (outside[0] if outside else 0)
+            assert output[6 * k:6 * k + 6] == ([0] * 6 if outside else [answer * 10**17 for answer in exact])
+
+
+def check_lengths_of_many_states():
+    """All lengths about those of up to two states, with tables of every kind: which refusal comes first."""
+    bad = with_place(T, 4, 501)
+    for table, soundness in ((T, 0), (T[:311], 1), (bad, 3), (with_place(T, 12, 1 << 62), 0), (with_place(T, 12, I64_MAX), 4),
+                             (with_place(bad, 12, I64_MAX), 3), (with_place(bad, 12, I64_MAX)[:311], 1)):
+        for states, count, answers in product(range(12), range(3), range(14)):
+            fits = (states, answers) == (5 * count, 6 * count)
+            due = soundness if fits or soundness == 1 else 2
+            assert read_many(table, [0] * states, count, answers)[0] == due
+
+
 # ------------------------------------------------------------------------- GTM
 
 def gtm_values(is_low, radians, terms=GTM_TERMS):
@@ -654,6 +694,8 @@ def check_desk():
         (b"show 0 312 0\nshow 0 312 1\nshow 0 0 3", b"\n? no such place\n0 0 0\n"),
         (b"length 0 2\nset 0 1 7\ncopy 0 3\nlength 3 4\nshow 3 0 4", b"ok\nok\nok\nok\n0 7 0 0\n"),
         (b"floats 0 g 0 0 0 0", b"? use: floats SPACE ALPHA BETA XI ETA ZETA\n"),
+        (b"many 0 0 0", b"? use: many SPACE STATES COUNT INTO\n"), (b"many 0 0 321 0", b"? there is room for 320 numbers\n"),
+        (b"many 0 10 321 0", b"? the spaces are 0 to 9\n"), (b"publish 0\nmany 0 1 1 2", desk.run(b"publish 7") + b"2 untouched\n"),
         (b"gtm_publish", b"? use: gtm_publish INTO\n"), (b"gtm_move 0 0 0", b"? use: gtm_move SPACE VARIABLE SHIFT INTO\n"),
         (b"gtm_read 0 3 0", b"? use: gtm_read SPACE ROOM ALPHA ETA\n"), (b"gtm_read 0 321 0 0", b"? there is room for 320 numbers\n"),
         (b"gtm_publish 0\ngtm_read 0 3 0 0\ngtm_move 0 0 0 0", b"2 untouched\n1 untouched\n1 untouched\n"),
@@ -663,12 +705,37 @@ def check_desk():
         assert desk.run(given) == answer
 
 
+MANY = b"""publish 0
+length 1 15
+set 1 0 100
+set 1 5 1001
+set 1 12 100
+length 2 18
+many 0 1 3 2
+show 2 4 9
+show 2 15 1
+length 1 0
+length 2 0
+many 0 1 0 2
+many 1 1 0 2
+"""
+
+
+def check_many_at_the_desk():
+    """Three states, of which the second is outside, and none."""
+    *_, answer, shown, last, _, _, none, refused, end = desk.run(MANY).split(b"\n")
+    assert answer.startswith(b"0 wrote 18 sum ") and answer.endswith(b" gave 0 11 0")
+    assert shown == b"-13507000000000000 1352100000000000 0 0 0 0 0 0 %d" % value(T, X, with_reading(2, 100))
+    assert last == b"%d" % value(T, L, with_reading(2, 100)) and none == b"0 wrote 0 sum 1 gave" and refused == b"1 untouched" and end == b""
+
+
 CHECKS = (
     check_printed_text, check_published_reads, check_values_1_to_7, check_values_8_and_9, check_values_10_and_11,
     check_values_12_and_13, check_worked_halves, check_worked_fine_cuts, check_fine_cuts, check_weights, check_exact_values, check_rounding,
     check_drawn_rounding, check_promised_moves, check_largest_moves, check_moves, check_refusal_order, check_tables_at_cap,
     check_moves_at_cap, check_float_reads, check_examples_in_microradians,
     check_errors_in_microradians, check_whole_milliradians, check_two_roundings, check_halves_in_microradians,
+    check_many_states, check_lengths_of_many_states, check_many_at_the_desk,
     check_printed_text_of_the_gtm, check_boundary_of_the_gtm, check_published_reads_of_the_gtm, check_worked_values_of_the_gtm,
     check_sizes_of_the_gtm, check_other_shape, check_line_program, check_draws, check_desk,
 )

@@ -1,8 +1,8 @@
-"""Whole-number answers: soundness, publish, read and move of a table, for every shape.
+"""Whole-number answers: soundness, publish, read, read of many states and move of a table, for every shape.
 
 Everything is done on plain Python whole numbers, so nothing here can overflow;
 the arguments are meant to be 64-bit numbers, and a table is a tuple of them.  An
-operation gives back its number and writes into the list lent to it only when that
+operation gives back its number and writes into the lists lent to it only when that
 number is 0.
 
 What is remembered (lru_cache) is worked out from the arguments alone, so it only
@@ -26,6 +26,7 @@ MOVE_TOO_HEAVY = 7
 
 # what a read looks at before its readings
 READ_ORDER = (WRONG_TABLE_LENGTH, WRONG_OUTPUT_LENGTH, LIMITS_NOT_GOOD, TOO_HEAVY)
+MANY_ORDER = READ_ORDER
 MOVE_ORDER = (WRONG_TABLE_LENGTH, WRONG_OUTPUT_LENGTH, NO_SUCH_VARIABLE, LIMITS_NOT_GOOD, TOO_HEAVY,
               MOVED_LIMIT_OUTSIDE, MOVE_TOO_HEAVY)
 
@@ -176,6 +177,45 @@ def read(shape, table, readings, output):
         output[:] = all_coefficients(shape, table, readings)
     return number
 
+
+# ----------------------------------------------------------------- many states
+
+def lengths_fit(shape, states, numbers, output):
+    """Whether there is one state, and room for one answer, for each number."""
+    return len(states) == shape.variable_count * len(numbers) and len(output) == shape.read_length * len(numbers)
+
+
+def state_at(shape, states, k):
+    return states[shape.variable_count * k:shape.variable_count * (k + 1)]
+
+
+def answer_at(shape, k):
+    """Where the coefficients of a state stand."""
+    return slice(shape.read_length * k, shape.read_length * (k + 1))
+
+
+def read_or_zeros(shape, table, readings):
+    """What a read gives back and writes, zeros after a refusal."""
+    room = [0] * shape.read_length
+    return read(shape, table, readings, room), room
+
+
+def answer_states(shape, table, states, numbers, output):
+    for k in range(len(numbers)):
+        numbers[k], output[answer_at(shape, k)] = read_or_zeros(shape, table, state_at(shape, states, k))
+
+
+def read_many(shape, table, states, numbers, output):
+    """A number for the call; with a 0 each state has its own among the numbers."""
+    tests = table_tests(shape, table)
+    tests[WRONG_OUTPUT_LENGTH] = lambda: not lengths_fit(shape, states, numbers, output)
+    number = first_that_holds(MANY_ORDER, tests)
+    if number == DONE:
+        answer_states(shape, table, states, numbers, output)
+    return number
+
+
+# ------------------------------------------------------------------- publishing
 
 def publish(shape, output):
     if len(output) != shape.table_length:

@@ -6,6 +6,7 @@ from itertools import zip_longest
 import kept
 import tables
 import wrong_gtm
+import wrong_many
 from desk import SPACE_COUNT, Desk
 from wrong_models import DESKS, MODELS, Wrong, wrong_signs, wrong_signs_of_rows
 
@@ -55,11 +56,11 @@ def right_model(title):
 def check():
     """Whether every wrong model is noticed and the right one is not, and what to say about it."""
     sections = kept.parted_sections()
-    models = MODELS + wrong_gtm.MODELS
+    models, desks = MODELS + wrong_many.MODELS + wrong_gtm.MODELS, DESKS + wrong_many.DESKS
     signs = wrong_signs() + wrong_signs_of_rows() + wrong_gtm.wrong_signs()
     faults = ["noticed: " + model.name for model in map(right_model, sections) if is_noticed(model, sections)]
-    faults += ["not noticed: " + model.name for model in models + DESKS + signs if not is_noticed(model, sections)]
+    faults += ["not noticed: " + model.name for model in models + desks + signs if not is_noticed(model, sections)]
     if faults:
         return False, "\n".join(faults)
     return True, "%d wrong models, %d wrong desks and %d wrong signs are noticed, the right model in none of %d sections" % (
-        len(models), len(DESKS), len(signs), len(sections))
+        len(models), len(desks), len(signs), len(sections))
