@@ -13,9 +13,9 @@
  * microradians, and coefficients in units of 10^-9.
  *
  * Every function takes any arguments and gives back 0, or the number of a refusal. After a refusal the output holds what it
- * held before. The counts are counts of numbers, not of bytes. A table and an output may not overlap. No function allocates, or calls
- * anything outside the archive; README.md says how much stack a read takes. The code uses the red zone of 128 bytes below the stack
- * pointer: an interrupt on the same stack has to leave it alone.
+ * held before. The counts are counts of numbers, not of bytes. An array that is written may not overlap another. No function
+ * allocates, or calls anything outside the archive; README.md says how much stack a read takes. The code uses the red zone of 128
+ * bytes below the stack pointer: an interrupt on the same stack has to leave it alone.
  */
 #ifndef CLOCHECLOAK_H
 #define CLOCHECLOAK_H
@@ -33,7 +33,8 @@ enum { CLOCHECLOAK_GTM_TABLE = 65, CLOCHECLOAK_GTM_COEFFICIENTS = 3 };
 enum {
     CLOCHECLOAK_DONE = 0,
     CLOCHECLOAK_WRONG_TABLE = 1,    /* the table does not have 312 numbers (GTM: 65) */
-    CLOCHECLOAK_WRONG_OUTPUT = 2,   /* the output does not have 6 numbers (reads) or 312 (publish, move); GTM: 3, 65 */
+    CLOCHECLOAK_WRONG_OUTPUT = 2,   /* the output does not have 6 numbers (reads) or 312 (publish, move); GTM: 3, 65;
+                                     * many states: they do not have 5 numbers for each answer's number, or the output not 6 */
     CLOCHECLOAK_BAD_LIMITS = 3,     /* the table's limits are not good, or its cut is not its fine cut rounded down */
     CLOCHECLOAK_TOO_HEAVY = 4,      /* a weight passes the cap */
     CLOCHECLOAK_NO_VARIABLE = 5,    /* the variable is above 4 (GTM: above 1) */
@@ -58,6 +59,15 @@ uint64_t clochecloak_publish(int64_t *out, size_t out_count);
 uint64_t clochecloak_read(const int64_t *table, size_t table_count, int64_t alpha, int64_t beta, int64_t xi, int64_t eta,
                           int64_t zeta, int64_t *out, size_t out_count);
 
+/* Writes the six coefficients of a Cumulus One table at many states, and the number of each. There are numbers_count states:
+ * state k is states[5 * k] to states[5 * k + 4], alpha to zeta. numbers[k] becomes what clochecloak_read gives back for it, 0 or
+ * 11 to 15, and out[6 * k] to out[6 * k + 5] its six coefficients, six zeros where the number is not 0: a state that is refused
+ * stops no other, and the call gives back 0. The call itself has refusals 1, 2, 3, 4, in this order, 2 where states_count is not
+ * 5 times numbers_count or out_count not 6 times; then nothing is written, neither into numbers nor into out. The table is looked
+ * at once for all states. With no state, all three counts 0, it is looked at too. */
+uint64_t clochecloak_read_many(const int64_t *table, size_t table_count, const int64_t *states, size_t states_count,
+                               uint64_t *numbers, size_t numbers_count, int64_t *out, size_t out_count);
+
 /* Writes the six coefficients of the published Cumulus One table, which is not handed over, at a state of whole microradians:
  * six whole numbers in units of 10^-9, each less than 7 of them off the printed model. Refusals 2, 11 to 15, in this order. */
 uint64_t clochecloak_read_microradians(int64_t alpha, int64_t beta, int64_t xi, int64_t eta, int64_t zeta, int64_t *out,
@@ -67,7 +77,11 @@ uint64_t clochecloak_read_microradians(int64_t alpha, int64_t beta, int64_t xi, 
  * low where alpha, as an exact number, is at most the fine cut. That piece is then read at the readings rounded to the nearest
  * whole number, a half away from zero: 0.5 is read as 1, -0.5 as -1. So 313.4 is read in the high piece at 313, where
  * clochecloak_read reads 313 in the low piece; and after a move that carries a half across zero, a reading less the shift is not
- * answered as the reading was. The answers are rounded half to even. Refusals 1, 3, 4, 21 to 25, 11 to 15, in this order. */
+ * answered as the reading was. The answers are rounded half to even. Refusals 1, 3, 4, 21 to 25, 11 to 15, in this order.
+ *
+ * It expects the processor's default mode for floats: rounding to nearest, ties to even, no exception unmasked, and subnormal
+ * numbers not taken for zeros (DAZ off, which linking with -ffast-math turns on). In another rounding mode answers differ in
+ * their last bits; with DAZ a negative subnormal alpha is read in the high piece where the fine cut is 0. FTZ changes nothing. */
 clochecloak_answer clochecloak_read_floats(const int64_t *table, size_t table_count, double alpha, double beta, double xi,
                                            double eta, double zeta);
 
