@@ -67,18 +67,31 @@ typedef struct {
     int64_t of[VARIABLES];
 } state;
 
-/* The terms of both side groups that have powers of beta alone. */
+INLINE state state_at(const int64_t *x) { return (state){{x[0], x[1], x[2], x[3], x[4]}}; }
+
+/* The terms of both side groups that have powers of beta alone. For many states of one table their numbers are added up before. */
 INLINE int64_t beta_alone(const int64_t *g, int64_t beta) {
     int64_t sum = 0;
     UNROLL for (int n = SIDE; n >= 0; n--) sum = sum * beta + g[BETA_XI + place(n, 0)] + g[BETA_ZETA + place(n, 0)];
     return sum;
 }
 
-INLINE void values(const int64_t *t, state x, int high, int64_t *out) {
+typedef struct {
+    int64_t of[BLOCKS][SIDE + 1];
+} sums;
+
+INLINE int64_t beta_added(const int64_t *numbers, int64_t beta) {
+    int64_t sum = 0;
+    UNROLL for (int n = SIDE; n >= 0; n--) sum = sum * beta + numbers[n];
+    return sum;
+}
+
+/* With the numbers before beta alone as they stand, or added up. */
+INLINE void values(const int64_t *t, int added, const sums *s, state x, int high, int64_t *out) {
     const int64_t *g = t + LIMITS, *pitch = g + (high ? HIGH : LOW);
-    for (int b = 0; b < BLOCKS; b++, g += BLOCK, pitch += BLOCK) {
+    UNROLL for (int b = 0; b < BLOCKS; b++, g += BLOCK, pitch += BLOCK) {
         int64_t sum = value(pitch, PITCH, 0, x.of[ALPHA], x.of[ETA]);
-        sum += beta_alone(g, x.of[BETA]);
+        sum += added ? beta_added(s->of[b], x.of[BETA]) : beta_alone(g, x.of[BETA]);
         sum += value(g + BETA_XI, SIDE, 1, x.of[BETA], x.of[XI]) * x.of[XI];
         sum += value(g + BETA_ZETA, SIDE, 1, x.of[BETA], x.of[ZETA]) * x.of[ZETA];
         out[b] = sum;
@@ -93,12 +106,12 @@ INLINE uint64_t outside(const int64_t *t, state x) {
 
 INLINE uint64_t read_sound(const int64_t *t, state x, int high, int64_t *out) {
     uint64_t no = outside(t, x);
-    if (!no) values(t, x, high, out);
+    if (!no) values(t, 0, NULL, x, high, out);
     return no;
 }
 
 uint64_t peer_sound_read(const int64_t *t, const int64_t *x, int64_t *out) {
-    return read_sound(t, (state){{x[0], x[1], x[2], x[3], x[4]}}, x[0] > t[CUT], out);
+    return read_sound(t, state_at(x), x[ALPHA] > t[CUT], out);
 }
 
 uint64_t peer_read(const int64_t *t, size_t n, int64_t a, int64_t be, int64_t xi, int64_t e, int64_t z, int64_t *out, size_t m) {
@@ -106,6 +119,48 @@ uint64_t peer_read(const int64_t *t, size_t n, int64_t a, int64_t be, int64_t xi
     if (m != COEFFICIENTS) return 2;
     uint64_t no = unsound(t);
     return no ? no : read_sound(t, (state){{a, be, xi, e, z}}, a > t[CUT], out);
+}
+
+static __attribute__((noinline)) void add_up(const int64_t *g, sums *s) {
+    for (int b = 0; b < BLOCKS; b++, g += BLOCK)
+        UNROLL for (int n = 0; n <= SIDE; n++) s->of[b][n] = g[BETA_XI + place(n, 0)] + g[BETA_ZETA + place(n, 0)];
+}
+
+/* The sums as memory of which the compiler knows nothing, so that it fetches them where they are used. */
+INLINE const sums *unknown(const sums *s) {
+    __asm__ volatile("" : "+r"(s) : : "memory");
+    return s;
+}
+
+uint64_t peer_read_many(const int64_t *t, size_t n, const int64_t *states, size_t states_count, uint64_t *numbers, size_t count,
+                        int64_t *out, size_t out_count) {
+    if (n != TABLE) return 1;
+    if (states_count != VARIABLES * count || out_count != COEFFICIENTS * count) return 2;
+    uint64_t no = unsound(t);
+    if (no) return no;
+    sums made;
+    add_up(t + LIMITS, &made);
+    const sums *s = unknown(&made);
+    for (size_t k = 0; k < count; k++, states += VARIABLES, out += COEFFICIENTS) {
+        state x = state_at(states);
+        numbers[k] = outside(t, x);
+        if (numbers[k]) UNROLL for (int b = 0; b < BLOCKS; b++) out[b] = 0;
+        else values(t, 1, s, x, x.of[ALPHA] > t[CUT], out);
+    }
+    return 0;
+}
+
+void peer_bare_many(const int64_t *t, const int64_t *states, size_t count, int64_t *out) {
+    for (size_t k = 0; k < count; k++, states += VARIABLES, out += COEFFICIENTS)
+        values(t, 0, NULL, state_at(states), states[ALPHA] > t[CUT], out);
+}
+
+void peer_bare_sums(const int64_t *t, const int64_t *states, size_t count, int64_t *out) {
+    sums made;
+    add_up(t + LIMITS, &made);
+    const sums *s = unknown(&made);
+    for (size_t k = 0; k < count; k++, states += VARIABLES, out += COEFFICIENTS)
+        values(t, 1, s, state_at(states), states[ALPHA] > t[CUT], out);
 }
 
 /* The nearest whole number, a half away from zero, of a float within 2^51 of zero; of any other, a NaN and the infinities

@@ -1,15 +1,17 @@
 /* Holds the peers to the archive: draws 100,000 cases of each model, the same every time, and has each operation answer each of
  * them twice. The number given back, the whole lent space, which was filled before, and every bit of the floats have to be the
- * same. Prints how often each number was met, or the first difference. */
+ * same, and many states of the archive have to be answered as one by one. Prints how often each number was met, or the first
+ * difference. */
 #include "peer.h"
 #include <math.h>
 #include <stdio.h>
 #include <stdlib.h>
 #include <string.h>
 
-enum { CASES = 100000, BLOCK_ROOM = 50, TABLE_ROOM = 312, NUMBERS = 26, FINE_CUT = 3 };
-enum { READ, FLOATS, MICRORADIANS, MOVE, OPERATIONS };
-static const char *const NAMES[OPERATIONS] = {"read", "read with floats", "read in microradians", "move"};
+enum { CASES = 100000, BLOCK_ROOM = 50, TABLE_ROOM = 312, STATES_ROOM = 10, NUMBERS = 26, FINE_CUT = 3 };
+enum { READ, MANY, STATE, FLOATS, MICRORADIANS, MOVE, OPERATIONS };
+static const char *const NAMES[OPERATIONS] = {"read",  "read of many states", "each of many states", "read with floats",
+                                              "read in microradians", "move"};
 
 /* A model's tables: how many there are of each part, and whether alpha's limits have a fine cut with them, so that the pieces
  * overlap; of the groups of a block where they start, their degrees and variables. */
@@ -36,9 +38,10 @@ static long met[OPERATIONS][NUMBERS], edges[2][3], across[2], drawn;
 
 /* One case. The readings are those of the reads in milliradians; those in microradians have limits of their own. */
 static struct {
-    int64_t table[TABLE_ROOM], readings[5], microradians[5], shift;
+    int64_t table[TABLE_ROOM], readings[5], microradians[5], states[5 * STATES_ROOM], shift;
     double floats[5];
     size_t table_count, answers_count, moved_count, variable;
+    size_t states_count, numbers_count, many_count; /* of many states: their readings, their numbers, their answers */
 } now;
 
 /* ---- Drawing ---- */
@@ -255,6 +258,31 @@ static size_t draw_count(size_t right) {
     return one_in(50) ? OTHERS[of == &GTM][below(9)] : right;
 }
 
+/* A right count, or seldom one that is off by one or by one state, 0, or far too long. */
+static size_t draw_many_count(size_t states, size_t each) {
+    size_t right = states * each;
+    switch (below(120)) {
+        case 0: return right + 1;
+        case 1: return right ? right - 1 : 0;
+        case 2: return right + each;
+        case 3: return right >= each ? right - each : each;
+        case 4: return one_in(2) ? 0 : SIZE_MAX;
+        default: return right;
+    }
+}
+
+/* Up to eight states, of which some have a reading outside. */
+static void draw_states(void) {
+    size_t count = below(STATES_ROOM - 1);
+    for (size_t k = 0; k < 5 * STATES_ROOM; k++) {
+        int v = k % 5;
+        now.states[k] = draw_reading(now.table[lowest(v)], now.table[highest(v)]);
+        if (v == 0 && one_in(5)) now.states[k] = (int64_t)((uint64_t)now.table[1] + below(2)); /* beside the cut */
+    }
+    now.states_count = draw_many_count(count, 5), now.numbers_count = draw_many_count(count, 1);
+    now.many_count = draw_many_count(count, 6);
+}
+
 static void draw_case(void) {
     static const int64_t LOW[5] = {-150000, -500000, -200000, -400000, -500000};
     static const int64_t HIGH[5] = {1000000, 500000, 200000, 400000, 500000};
@@ -270,6 +298,7 @@ static void draw_case(void) {
     if (one_in(10)) now.microradians[0] = between(313265, 313275);
     now.table_count = draw_count(of->table), now.answers_count = draw_count(of->blocks);
     now.moved_count = draw_count(of->table);
+    if (of == &CUMULUS) draw_states();
 }
 
 /* ---- Comparing ---- */
@@ -297,6 +326,45 @@ static int64_t a[TABLE_ROOM + 1], b[TABLE_ROOM + 1];
 
 static void hold_slice(int operation, uint64_t ours, uint64_t peers) { hold(operation, ours, peers, a, b, sizeof a); }
 
+/* Of many states: a room for more of both kinds than is lent. */
+typedef struct {
+    uint64_t numbers[STATES_ROOM];
+    int64_t answers[6 * STATES_ROOM];
+} many;
+
+/* Each state as it is read alone, and, where none is refused, all of them by the bare evaluations. */
+static void hold_states(many given, size_t count) {
+    int all = 1;
+    for (size_t k = 0; k < count; k++) {
+        const int64_t *x = now.states + 5 * k;
+        int64_t six[6] = {0};
+        uint64_t alone = clochecloak_read(now.table, now.table_count, x[0], x[1], x[2], x[3], x[4], six, 6);
+        hold(STATE, given.numbers[k], alone, given.answers + 6 * k, six, sizeof six);
+        all = all && alone == 0;
+    }
+    if (!all) return;
+    many bare = given, added = given;
+    memset(bare.answers, 0, 6 * count * sizeof *bare.answers), memset(added.answers, 0, 6 * count * sizeof *added.answers);
+    peer_bare_many(now.table, now.states, count, bare.answers);
+    peer_bare_sums(now.table, now.states, count, added.answers);
+    if (memcmp(&bare, &given, sizeof bare) || memcmp(&added, &given, sizeof added)) {
+        printf("same: case %ld: a bare evaluation answers otherwise\n", drawn);
+        exit(1);
+    }
+}
+
+static void compare_many(void) {
+    many ours, peers;
+    memset(&ours, (int)word(), sizeof ours);
+    peers = ours;
+    uint64_t number = clochecloak_read_many(now.table, now.table_count, now.states, now.states_count, ours.numbers, now.numbers_count,
+                                            ours.answers, now.many_count);
+    uint64_t other = peer_read_many(now.table, now.table_count, now.states, now.states_count, peers.numbers, now.numbers_count,
+                                    peers.answers, now.many_count);
+    hold(MANY, number, other, &ours, &peers, sizeof ours);
+    if (number == CLOCHECLOAK_DONE) hold_states(ours, now.numbers_count);
+}
+
 static void compare(void) {
     const int64_t *t = now.table, *x = now.readings, *m = now.microradians;
     const double *f = now.floats;
@@ -316,6 +384,7 @@ static void compare(void) {
     ours = of->move(t, n, now.variable, now.shift, a, now.moved_count);
     hold_slice(MOVE, ours, of->peer_move(t, n, now.variable, now.shift, b, now.moved_count));
     if (of == &GTM) return;
+    compare_many();
     clochecloak_answer p = clochecloak_read_floats(t, n, f[0], f[1], f[2], f[3], f[4]);
     clochecloak_answer q = peer_read_floats(t, n, f[0], f[1], f[2], f[3], f[4]);
     hold(FLOATS, p.number, q.number, &p, &q, sizeof p);
