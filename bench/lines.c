@@ -11,9 +11,11 @@ static char *filled = out;
 static char digits[10001][4]; /* the four digits of every number below 10,000; the last is copied but never used */
 static unsigned char length[10000];
 static int64_t table[CLOCHECLOAK_TABLE];
+static peer_sums sums;
 
 static void prepare(void) {
     clochecloak_publish(table, CLOCHECLOAK_TABLE);
+    peer_add_up(table, &sums);
     for (int n = 0; n < 10000; n++) {
         length[n] = 1 + (n > 9) + (n > 99) + (n > 999);
         for (int k = 3, rest = n; k >= 0; k--, rest /= 10) digits[n][k] = '0' + rest % 10;
@@ -105,7 +107,7 @@ static const char *answer_all(const char *line, const char *end) {
             refuse(31);
             line = newline + 1;
         } else if (next <= end) {
-            int no = peer_sound_read(table, x, six);
+            int no = peer_sound_read(table, &sums, x, six);
             if (no) refuse(no);
             else answer(six);
             line = next;

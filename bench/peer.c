@@ -42,7 +42,7 @@ INLINE int good(const int64_t *t, reaches *r) {
 
 /* Whether all twelve weights are at most the cap. The side groups of a block are weighed once for both pieces. Not inlined: the
  * sums have the registers to themselves. */
-static __attribute__((noinline)) int light(const int64_t *t, const reaches *r) {
+static __attribute__((noinline)) int exactly_light(const int64_t *t, const reaches *r) {
     uint64_t f[BLOCK];
     multiply(f + LOW, PITCH, r->of[ALPHA], r->of[ETA]);
     multiply(f + HIGH, PITCH, r->high, r->of[ETA]);
@@ -55,6 +55,45 @@ static __attribute__((noinline)) int light(const int64_t *t, const reaches *r) {
     }
     return 1;
 }
+
+#ifdef DOUBLES
+/* The same by doubles, where they decide. The products of reaches are exact, and each weight is at most 42 roundings off, less than
+ * one in 10^14: so near to the cap it is worked out again, exactly. */
+INLINE void multiply_doubles(double *f, int d, double r, double s) {
+    f[0] = 1;
+    UNROLL for (int n = 1; n <= d; n++) {
+        UNROLL for (int q = 0; q < n; q++) f[place(n, q)] = f[place(n - 1, q)] * r;
+        f[place(n, n)] = f[place(n - 1, n - 1)] * s;
+    }
+}
+
+INLINE double weigh_doubles(double w, const int64_t *g, const double *f, int d) {
+    UNROLL for (int k = 0; k < place(d + 1, 0); k++) w += fabs((double)g[k]) * f[k];
+    return w;
+}
+
+INLINE double larger(double a, double b) { return a > b ? a : b; }
+
+static __attribute__((noinline)) int light(const int64_t *t, const reaches *r) {
+    const double alpha = (int64_t)r->of[ALPHA], high = (int64_t)r->high, beta = (int64_t)r->of[BETA];
+    const double xi = (int64_t)r->of[XI], eta = (int64_t)r->of[ETA], zeta = (int64_t)r->of[ZETA];
+    double f[BLOCK], most = 0;
+    multiply_doubles(f + LOW, PITCH, alpha, eta);
+    multiply_doubles(f + HIGH, PITCH, high, eta);
+    multiply_doubles(f + BETA_XI, SIDE, beta, xi);
+    multiply_doubles(f + BETA_ZETA, SIDE, beta, zeta);
+    for (const int64_t *g = t + LIMITS; g < t + TABLE; g += BLOCK) {
+        double side = weigh_doubles(0, g + BETA_XI, f + BETA_XI, SIDE);
+        side = weigh_doubles(side, g + BETA_ZETA, f + BETA_ZETA, SIDE);
+        most = larger(most, weigh_doubles(side, g + LOW, f + LOW, PITCH));
+        most = larger(most, weigh_doubles(side, g + HIGH, f + HIGH, PITCH));
+    }
+    if (most < (double)CAP * (1 - 1e-14)) return 1;
+    return most < (double)CAP * (1 + 1e-14) && exactly_light(t, r);
+}
+#else
+#define light exactly_light
+#endif
 
 static uint64_t unsound(const int64_t *t) {
     reaches r;
@@ -76,10 +115,6 @@ INLINE int64_t beta_alone(const int64_t *g, int64_t beta) {
     return sum;
 }
 
-typedef struct {
-    int64_t of[BLOCKS][SIDE + 1];
-} sums;
-
 INLINE int64_t beta_added(const int64_t *numbers, int64_t beta) {
     int64_t sum = 0;
     UNROLL for (int n = SIDE; n >= 0; n--) sum = sum * beta + numbers[n];
@@ -87,7 +122,7 @@ INLINE int64_t beta_added(const int64_t *numbers, int64_t beta) {
 }
 
 /* With the numbers before beta alone as they stand, or added up. */
-INLINE void values(const int64_t *t, int added, const sums *s, state x, int high, int64_t *out) {
+INLINE void values(const int64_t *t, int added, const peer_sums *s, state x, int high, int64_t *out) {
     const int64_t *g = t + LIMITS, *pitch = g + (high ? HIGH : LOW);
     UNROLL for (int b = 0; b < BLOCKS; b++, g += BLOCK, pitch += BLOCK) {
         int64_t sum = value(pitch, PITCH, 0, x.of[ALPHA], x.of[ETA]);
@@ -110,8 +145,10 @@ INLINE uint64_t read_sound(const int64_t *t, state x, int high, int64_t *out) {
     return no;
 }
 
-uint64_t peer_sound_read(const int64_t *t, const int64_t *x, int64_t *out) {
-    return read_sound(t, state_at(x), x[ALPHA] > t[CUT], out);
+uint64_t peer_sound_read(const int64_t *t, const peer_sums *s, const int64_t *x, int64_t *out) {
+    uint64_t no = outside(t, state_at(x));
+    if (!no) values(t, 1, s, state_at(x), x[ALPHA] > t[CUT], out);
+    return no;
 }
 
 uint64_t peer_read(const int64_t *t, size_t n, int64_t a, int64_t be, int64_t xi, int64_t e, int64_t z, int64_t *out, size_t m) {
@@ -121,13 +158,15 @@ uint64_t peer_read(const int64_t *t, size_t n, int64_t a, int64_t be, int64_t xi
     return no ? no : read_sound(t, (state){{a, be, xi, e, z}}, a > t[CUT], out);
 }
 
-static __attribute__((noinline)) void add_up(const int64_t *g, sums *s) {
+/* Out of line, so that the sums are in memory. */
+__attribute__((noinline)) void peer_add_up(const int64_t *t, peer_sums *s) {
+    const int64_t *g = t + LIMITS;
     for (int b = 0; b < BLOCKS; b++, g += BLOCK)
         UNROLL for (int n = 0; n <= SIDE; n++) s->of[b][n] = g[BETA_XI + place(n, 0)] + g[BETA_ZETA + place(n, 0)];
 }
 
 /* The sums as memory of which the compiler knows nothing, so that it fetches them where they are used. */
-INLINE const sums *unknown(const sums *s) {
+INLINE const peer_sums *unknown(const peer_sums *s) {
     __asm__ volatile("" : "+r"(s) : : "memory");
     return s;
 }
@@ -138,9 +177,9 @@ uint64_t peer_read_many(const int64_t *t, size_t n, const int64_t *states, size_
     if (states_count != VARIABLES * count || out_count != COEFFICIENTS * count) return 2;
     uint64_t no = unsound(t);
     if (no) return no;
-    sums made;
-    add_up(t + LIMITS, &made);
-    const sums *s = unknown(&made);
+    peer_sums made;
+    peer_add_up(t, &made);
+    const peer_sums *s = unknown(&made);
     for (size_t k = 0; k < count; k++, states += VARIABLES, out += COEFFICIENTS) {
         state x = state_at(states);
         numbers[k] = outside(t, x);
@@ -156,9 +195,9 @@ void peer_bare_many(const int64_t *t, const int64_t *states, size_t count, int64
 }
 
 void peer_bare_sums(const int64_t *t, const int64_t *states, size_t count, int64_t *out) {
-    sums made;
-    add_up(t + LIMITS, &made);
-    const sums *s = unknown(&made);
+    peer_sums made;
+    peer_add_up(t, &made);
+    const peer_sums *s = unknown(&made);
     for (size_t k = 0; k < count; k++, states += VARIABLES, out += COEFFICIENTS)
         values(t, 1, s, state_at(states), states[ALPHA] > t[CUT], out);
 }

@@ -5,7 +5,7 @@ import tables
 from model import CUMULUS, READ_LENGTH
 from shapes import ALPHA
 from tables import DONE, LIMITS_NOT_GOOD, TOO_HEAVY, WRONG_OUTPUT_LENGTH, WRONG_TABLE_LENGTH
-from wrong_models import Wrong, in_tables, low_half, right_read, with_test
+from wrong_models import Wrong, changed_after_refusal, in_tables, low_half, right_read, with_test
 
 VARIABLES = CUMULUS.variable_count
 FIT = "Wrong lengths of many states"
@@ -19,8 +19,8 @@ right_read_or_zeros = tables.read_or_zeros
 right_state_at = tables.state_at
 
 
-def wrong(name, section, *changes, command="many"):
-    return Wrong(name, section, command, *changes)
+def wrong(name, section, *changes):
+    return Wrong(name, section, "many", *changes)
 
 
 def answering(answer_states):
@@ -377,5 +377,6 @@ DESKS = (
     wrong("many states answered into the table's space", "Many states in the same spaces", (desk.Desk, "many", answered_into_the_table)),
     wrong("many states taken from the table's space", "Many states in the same spaces", (desk.Desk, "many", states_from_the_table)),
     wrong("only the numbers of refused states told", REFUSED, (desk.Desk, "many", refused_alone_told)),
+    Wrong("a space changed by a refusal of many states", FIT, "sum", (desk.Desk, "write", changed_after_refusal)),
     wrong("room for 321 numbers of many states", "Counts of many states", (desk, "MOST_NUMBERS", 321)),
 )

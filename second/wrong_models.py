@@ -527,11 +527,11 @@ def with_kind(right, wrong):
     return [(command, "kinds", [wrong if kind is right else kind for kind in command.kinds]) for command in desk.COMMANDS.values()]
 
 
-def changed_after_refusal(self, into, operation):
+def changed_after_refusal(self, into, operation, *others):
     room = desk.lent(len(self.spaces[into]))
     number = operation(room)
     self.spaces[into] = tuple(room)
-    return desk.refusal(number, room) if number else "0 wrote %d sum %d" % (len(room), desk.checksum(tuple(room)))
+    return desk.refusal(number, room, *others) if number else "0 wrote %d sum %d" % (len(room), desk.checksum(tuple(room)))
 
 
 MODELS = (
