@@ -1,6 +1,6 @@
 /* trimcard in strong plain C: 64 KiB in and out, a parser that goes over the line where it stands, a printer that takes four
  * digits at a time from a list of all of them, and the published table, of which it knows that it is sound. */
-#include "peer.h"
+#include "states.h"
 #include <string.h>
 #include <unistd.h>
 
@@ -11,11 +11,11 @@ static char *filled = out;
 static char digits[10001][4]; /* the four digits of every number below 10,000; the last is copied but never used */
 static unsigned char length[10000];
 static int64_t table[CLOCHECLOAK_TABLE];
-static peer_sums sums;
+static sums made;
 
 static void prepare(void) {
     clochecloak_publish(table, CLOCHECLOAK_TABLE);
-    peer_add_up(table, &sums);
+    add_up(table, &made);
     for (int n = 0; n < 10000; n++) {
         length[n] = 1 + (n > 9) + (n > 99) + (n > 999);
         for (int k = 3, rest = n; k >= 0; k--, rest /= 10) digits[n][k] = '0' + rest % 10;
@@ -107,9 +107,10 @@ static const char *answer_all(const char *line, const char *end) {
             refuse(31);
             line = newline + 1;
         } else if (next <= end) {
-            int no = peer_sound_read(table, &sums, x, six);
+            state at = state_at(x);
+            int no = outside(table, at);
             if (no) refuse(no);
-            else answer(six);
+            else values(table, 1, &made, at, at.of[ALPHA] > table[CUT], six), answer(six);
             line = next;
         } else return line;
     }

@@ -1,21 +1,12 @@
 /* The operations in strong plain C: the same checks, refusals and answers as the proved code, on every input. Weights are exact
  * and are worked out for every table, whatever its numbers. Readings within the limits of a sound table, and moves within the
  * weight rule, keep every sum and product on the way within 64 bits, so that values and moved numbers need no checks. */
-#include "groups.h"
+#include "states.h"
 #include <float.h>
 #include <math.h>
 
-enum { LIMITS = 12, BLOCK = 50, BLOCKS = 6, TABLE = 312, COEFFICIENTS = 6, VARIABLES = 5 };
-enum { CUT = 1, FINE_CUT = 3, THOUSANDTHS = 1000 }; /* places of the cut, whole and in thousandths of a milliradian */
-enum { ALPHA, BETA, XI, ETA, ZETA };
-enum { LOW = 0, HIGH = 10, BETA_XI = 20, BETA_ZETA = 35 }; /* where the groups of a block start */
-enum { PITCH = 3, SIDE = 4 };                              /* their degrees */
-
 static const int START[4] = {LOW, HIGH, BETA_XI, BETA_ZETA}, DEGREE[4] = {PITCH, PITCH, SIDE, SIDE};
 static const int FIRST[4] = {ALPHA, ALPHA, BETA, BETA}, SECOND[4] = {ETA, ETA, XI, ZETA};
-
-INLINE int lowest(int v) { return v ? 2 * v + 2 : 0; }
-INLINE int highest(int v) { return v ? 2 * v + 3 : 2; }
 
 /* The reaches of the five variables, alpha's for the low piece; and alpha's for the high piece. The pieces overlap: a float that
  * is rounded past the cut is read in the piece that it had before. */
@@ -101,53 +92,9 @@ static uint64_t unsound(const int64_t *t) {
     return light(t, &r) ? 0 : 4;
 }
 
-/* A state by value: behind a pointer it would have to be fetched again after each number that is written. */
-typedef struct {
-    int64_t of[VARIABLES];
-} state;
-
-INLINE state state_at(const int64_t *x) { return (state){{x[0], x[1], x[2], x[3], x[4]}}; }
-
-/* The terms of both side groups that have powers of beta alone. For many states of one table their numbers are added up before. */
-INLINE int64_t beta_alone(const int64_t *g, int64_t beta) {
-    int64_t sum = 0;
-    UNROLL for (int n = SIDE; n >= 0; n--) sum = sum * beta + g[BETA_XI + place(n, 0)] + g[BETA_ZETA + place(n, 0)];
-    return sum;
-}
-
-INLINE int64_t beta_added(const int64_t *numbers, int64_t beta) {
-    int64_t sum = 0;
-    UNROLL for (int n = SIDE; n >= 0; n--) sum = sum * beta + numbers[n];
-    return sum;
-}
-
-/* With the numbers before beta alone as they stand, or added up. */
-INLINE void values(const int64_t *t, int added, const peer_sums *s, state x, int high, int64_t *out) {
-    const int64_t *g = t + LIMITS, *pitch = g + (high ? HIGH : LOW);
-    UNROLL for (int b = 0; b < BLOCKS; b++, g += BLOCK, pitch += BLOCK) {
-        int64_t sum = value(pitch, PITCH, 0, x.of[ALPHA], x.of[ETA]);
-        sum += added ? beta_added(s->of[b], x.of[BETA]) : beta_alone(g, x.of[BETA]);
-        sum += value(g + BETA_XI, SIDE, 1, x.of[BETA], x.of[XI]) * x.of[XI];
-        sum += value(g + BETA_ZETA, SIDE, 1, x.of[BETA], x.of[ZETA]) * x.of[ZETA];
-        out[b] = sum;
-    }
-}
-
-INLINE uint64_t outside(const int64_t *t, state x) {
-    UNROLL for (int v = 0; v < VARIABLES; v++)
-        if (x.of[v] < t[lowest(v)] || x.of[v] > t[highest(v)]) return 11 + v;
-    return 0;
-}
-
 INLINE uint64_t read_sound(const int64_t *t, state x, int high, int64_t *out) {
     uint64_t no = outside(t, x);
     if (!no) values(t, 0, NULL, x, high, out);
-    return no;
-}
-
-uint64_t peer_sound_read(const int64_t *t, const peer_sums *s, const int64_t *x, int64_t *out) {
-    uint64_t no = outside(t, state_at(x));
-    if (!no) values(t, 1, s, state_at(x), x[ALPHA] > t[CUT], out);
     return no;
 }
 
@@ -158,15 +105,8 @@ uint64_t peer_read(const int64_t *t, size_t n, int64_t a, int64_t be, int64_t xi
     return no ? no : read_sound(t, (state){{a, be, xi, e, z}}, a > t[CUT], out);
 }
 
-/* Out of line, so that the sums are in memory. */
-__attribute__((noinline)) void peer_add_up(const int64_t *t, peer_sums *s) {
-    const int64_t *g = t + LIMITS;
-    for (int b = 0; b < BLOCKS; b++, g += BLOCK)
-        UNROLL for (int n = 0; n <= SIDE; n++) s->of[b][n] = g[BETA_XI + place(n, 0)] + g[BETA_ZETA + place(n, 0)];
-}
-
 /* The sums as memory of which the compiler knows nothing, so that it fetches them where they are used. */
-INLINE const peer_sums *unknown(const peer_sums *s) {
+INLINE const sums *unknown(const sums *s) {
     __asm__ volatile("" : "+r"(s) : : "memory");
     return s;
 }
@@ -177,9 +117,9 @@ uint64_t peer_read_many(const int64_t *t, size_t n, const int64_t *states, size_
     if (states_count != VARIABLES * count || out_count != COEFFICIENTS * count) return 2;
     uint64_t no = unsound(t);
     if (no) return no;
-    peer_sums made;
-    peer_add_up(t, &made);
-    const peer_sums *s = unknown(&made);
+    sums made;
+    add_up(t, &made);
+    const sums *s = unknown(&made);
     for (size_t k = 0; k < count; k++, states += VARIABLES, out += COEFFICIENTS) {
         state x = state_at(states);
         numbers[k] = outside(t, x);
@@ -195,9 +135,9 @@ void peer_bare_many(const int64_t *t, const int64_t *states, size_t count, int64
 }
 
 void peer_bare_sums(const int64_t *t, const int64_t *states, size_t count, int64_t *out) {
-    peer_sums made;
-    peer_add_up(t, &made);
-    const peer_sums *s = unknown(&made);
+    sums made;
+    add_up(t, &made);
+    const sums *s = unknown(&made);
     for (size_t k = 0; k < count; k++, states += VARIABLES, out += COEFFICIENTS)
         values(t, 1, s, state_at(states), states[ALPHA] > t[CUT], out);
 }

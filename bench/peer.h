@@ -1,14 +1,5 @@
 #include "../include/clochecloak.h"
 
-/* For a table that is read at many states: what stands before powers of beta alone in both side groups of a block, added up. */
-typedef struct {
-    int64_t of[6][5];
-} peer_sums;
-void peer_add_up(const int64_t *t, peer_sums *s);
-
-/* A read of a table that is known to be sound: the limits of the five readings, then the coefficients. */
-uint64_t peer_sound_read(const int64_t *t, const peer_sums *s, const int64_t *x, int64_t *out);
-
 uint64_t peer_read(const int64_t *t, size_t n, int64_t a, int64_t be, int64_t xi, int64_t e, int64_t z, int64_t *out, size_t m);
 uint64_t peer_read_many(const int64_t *t, size_t n, const int64_t *states, size_t states_count, uint64_t *numbers, size_t count,
                         int64_t *out, size_t out_count);
