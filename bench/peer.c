@@ -114,7 +114,7 @@ INLINE const sums *unknown(const sums *s) {
 uint64_t peer_read_many(const int64_t *t, size_t n, const int64_t *states, size_t states_count, uint64_t *numbers, size_t count,
                         int64_t *out, size_t out_count) {
     if (n != TABLE) return 1;
-    if (states_count != VARIABLES * count || out_count != COEFFICIENTS * count) return 2;
+    if (count > SIZE_MAX / COEFFICIENTS || states_count != VARIABLES * count || out_count != COEFFICIENTS * count) return 2;
     uint64_t no = unsound(t);
     if (no) return no;
     sums made;

@@ -281,6 +281,10 @@ static void draw_states(void) {
     }
     now.states_count = draw_many_count(count, 5), now.numbers_count = draw_many_count(count, 1);
     now.many_count = draw_many_count(count, 6);
+    if (one_in(500)) { /* counts that fit modulo 2^64 alone */
+        now.states_count = between(1, 4), now.numbers_count = now.states_count * 0xcccccccccccccccd;
+        now.many_count = 6 * now.numbers_count;
+    }
 }
 
 static void draw_case(void) {
