@@ -1,9 +1,8 @@
 // Polynomials in two variables u and v, held as slices of numbers in the order of `specs/Order.antt`.
 ghost use mathlib.Core.Path.{_≡_};
-ghost use Prim.Native.Nat.{_+_, _*_, _^_, _≤_, _<_};
+ghost use Prim.Native.Nat.{_+_, _*_, _≤_};
 ghost use lib.IntN.{pos, _*ℤ_};
 ghost use Rattle.polynomials.specs.Numbers.{ints};
-ghost use Rattle.polynomials.specs.Order.{next};
 ghost use Rattle.polynomials.specs.Group.{number, value, weight};
 ghost use Rattle.polynomials.specs.Downward.{rowDownward, rowWeight};
 ghost use Rattle.polynomials.specs.Limits.{highestDegree, against, joint};
@@ -49,27 +48,6 @@ impl Reach {
 pub struct Powers {
     pub first: usize,
     pub second: usize,
-}
-
-impl Powers {
-    // What stands at the next place.
-    pub fn next(self) -> Powers
-        requires { ⌜ self .second + 1 < 2 ^ 64 ⌝ }
-        ensures { λ r. ⌜ r ≡ next self ⌝ }
-    {
-        let p = self.first;
-        let q = self.second;
-        if p == 0 {
-            return Powers {
-                first: q + 1,
-                second: 0,
-            };
-        }
-        Powers {
-            first: p - 1,
-            second: q + 1,
-        }
-    }
 }
 
 // The number before the powers p of u and q of v; 0 where the group has none.

@@ -37,6 +37,7 @@ use Rattle.weights.proofs as weights
 use Rattle.blocks.proofs as blocks
 use Rattle.tables.proofs as tables
 use Rattle.moving.proofs as moving
+use Rattle.states.proofs as states
 use Rattle.cumulus.proofs as cumulus
 use Rattle.gtm.proofs as gtm
 use Rattle.microradians.proofs as microradians
@@ -102,9 +103,6 @@ same-reach h k =
 
 pub reach-of-tight : Tight polynomials.Reach.of.ended polynomials.Reach.of.Reads.Post
 reach-of-tight κs a o p = tight o p (same-reach (o .allowed) (p .allowed), tt)
-
-pub powers-next-tight : Tight polynomials.Powers.next.ended polynomials.Powers.next.Reads.Post
-powers-next-tight κs a o p = tight o p (search same)
 
 pub number-at-tight : Tight polynomials.number_at.ended polynomials.number_at.Reads.Post
 number-at-tight κs a o p = tight o p (search same)
@@ -178,9 +176,6 @@ limits-lowest-tight κs a o p = tight o p (search same)
 pub limits-highest-tight : Tight limits.Limits.highest.ended limits.Limits.highest.Reads.Post
 limits-highest-tight κs a o p = tight o p (search same)
 
-pub limits-in-range-tight : Tight limits.Limits.in_range.ended limits.Limits.in_range.Reads.Post
-limits-in-range-tight κs a o p = tight o p (search same)
-
 pub limits-good-tight : Tight limits.Limits.good.ended limits.Limits.good.Reads.Post
 limits-good-tight κs a o p = tight o p (search same)
 
@@ -223,6 +218,12 @@ soundness-tight κs a o p = tight o p (search same)
 pub refusal-of-tight : Tight tables.soundness.refusal_of.ended tables.soundness.refusal_of.Reads.Post
 refusal-of-tight κs a o p = tight o p (search same)
 
+pub write-values-tight : Tight tables.reading.write_values.ended tables.reading.write_values.Reads.Post
+write-values-tight κs a o p = tight o p (search same)
+
+pub read-sound-tight : Tight tables.reading.read_sound.ended tables.reading.read_sound.Reads.Post
+read-sound-tight κs a o p = tight o p (search same)
+
 pub read-known-tight : Tight tables.reading.read_known.ended tables.reading.read_known.Reads.Post
 read-known-tight κs a o p = tight o p (search same)
 
@@ -233,12 +234,19 @@ refusal-into-tight κs a o p = tight o p (search same)
 pub model-move-datum-tight : Tight moving.move_datum.ended moving.move_datum.Reads.Post
 model-move-datum-tight κs a o p = tight o p (search same)
 
+-- ════ states
+pub model-read-many-tight : Tight states.read_many.ended states.read_many.Reads.Post
+model-read-many-tight κs a o p = tight o p (search same)
+
 -- ════ cumulus
 pub publish-tight : Tight cumulus.publish.ended cumulus.publish.Reads.Post
 publish-tight κs a o p = tight o p (search same)
 
 pub read-tight : Tight cumulus.read.ended cumulus.read.Reads.Post
 read-tight κs a o p = tight o p (search same)
+
+pub read-many-tight : Tight cumulus.read_many.ended cumulus.read_many.Reads.Post
+read-many-tight κs a o p = tight o p (search same)
 
 pub move-datum-tight : Tight cumulus.move_datum.ended cumulus.move_datum.Reads.Post
 move-datum-tight κs a o p = tight o p (search same)
@@ -278,6 +286,9 @@ clochecloak-publish-tight κs a o p = tight o p (search same)
 pub clochecloak-read-tight : Tight clochecloak.clochecloak_read.ended clochecloak.clochecloak_read.Reads.Post
 clochecloak-read-tight κs a o p = tight o p (search same)
 
+pub clochecloak-read-many-tight : Tight clochecloak.clochecloak_read_many.ended clochecloak.clochecloak_read_many.Reads.Post
+clochecloak-read-many-tight κs a o p = tight o p (search same)
+
 pub clochecloak-read-microradians-tight : Tight clochecloak.clochecloak_read_microradians.ended clochecloak.clochecloak_read_microradians.Reads.Post
 clochecloak-read-microradians-tight κs a o p = tight o p (search same)
 
@@ -307,6 +318,9 @@ pub state-finish-tight : Tight lines.State.finish.ended lines.State.finish.Reads
 state-finish-tight κs a o p = tight o p (search same)
 
 -- ════ printing
+pub put-few-tight : Tight printing.put_few.ended printing.put_few.Reads.Post
+put-few-tight κs a o p = tight o p (search same)
+
 pub put-digits-tight : Tight printing.put_digits.ended printing.put_digits.Reads.Post
 put-digits-tight κs a o p = tight o p (search same)
 
