@@ -93,7 +93,7 @@ fn put_line(table: &[i64], refused: u64, line: Line, out: &mut [u8], at: usize) 
             zeta,
         } => {
             let state = [alpha, beta, xi, eta, zeta];
-            read_known(Model::Cumulus, table, refused, &state, &mut values)
+            read_known(Model::Cumulus, table, refused, state, &mut values)
         }
     };
     put_answer(number, values, out, at)

@@ -146,7 +146,7 @@ fn answered(table: &[i64], piece: usize, state: [i64; VARIABLES]) -> Answer
     ensures { λ r. ⌜ r ≡ answerWith 0 positiveZero (λ b. floatOf (total (coefficient cumulus (now (table .entry)) b (pieceOf piece)) (wholes state))) ⌝ }
 {
     let mut values: [i64; BLOCKS] = [0; BLOCKS];
-    write_values(Model::Cumulus, table, piece, &state, &mut values);
+    write_values(Model::Cumulus, table, piece, state, &mut values);
     Answer {
         number: DONE,
         reading: 0.0,

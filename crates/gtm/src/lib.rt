@@ -102,7 +102,9 @@ pub fn read(table: &[i64], state: [i64; VARIABLES], out: &mut [i64]) -> u64
     ensures output { λ r. ⌜ now (out .exit) ≡ readOutput gtm (now (table .entry)) (readings state) (now (out .entry)) ⌝ }
 {
     let refused = refusal_into(Model::Gtm, table, out.len());
-    read_known(Model::Gtm, table, refused, &state, out)
+    let alpha = state[0];
+    let eta = state[1];
+    read_known(Model::Gtm, table, refused, [alpha, eta, 0, 0, 0], out)
 }
 
 // Writes the table with the zero of one variable, alpha (0) or eta (1), moved by `shift` into `out`, or refuses and leaves `out` as it was. The moved

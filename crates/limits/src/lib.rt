@@ -173,10 +173,14 @@ impl Limits {
     fn others_good(self) -> bool
         ensures { λ r. ⌜ r ≡ othersGood (shape (self .model)) (self .numbers) ⌝ }
     {
-        self.variable_good(1)
-            & self.variable_good(2)
-            & self.variable_good(3)
-            & self.variable_good(4)
+        let mut variable: usize = 1;
+        while variable < VARIABLES_ROOM {
+            if !self.variable_good(variable) {
+                return false;
+            }
+            variable += 1;
+        }
+        true
     }
 
     // Whether the cut is the fine cut divided by 1000 and rounded down.
@@ -302,7 +306,7 @@ impl Limits {
 
     // The refusal of the first reading outside its limits; 0 where all are inside.
     pub fn outside(self, state: &[i64]) -> u64
-        requires { ⌜ length (now state) ≡ shape (self .model) .variables ⌝ }
+        requires { ⌜ shape (self .model) .variables ≤ length (now state) ⌝ }
         ensures { λ r. ⌜ r ≡ first (listed (shape (self .model) .variables) (λ i. outside (shape (self .model)) i when not (inside (shape (self .model)) (self .numbers) (readings (now (state .entry))) i))) ⌝ }
     {
         let model = self.model;

@@ -1,22 +1,36 @@
 -- The reads so far: numbers and outputs of the states before one stand at their places.
+--   readings-held       the readings by value are the state's
 --   Before              what holds before state k is read
 --   part-of             state k, and the place of its output, lie within theirs
 --   none-read, one-more, all-read   at the start, after one state more, and at the end
-use mathlib.Core.Path.{_≡_, refl, sym, _∙_, ap, ap₂, subst₂}
+use mathlib.Core.Path.{_≡_, refl, sym, _∙_, ap, fun-ext}
 use mathlib.Core.List.{List, _++_}
 use Prim.Native.Nat.{ℕ, suc, _+_, _-_, _*_, _≤_, _<_}
 use native.Mathlib.Nat as N
 use native.Mathlib.Numerals.{add-one}
+use native.Mathlib.Decide.{decLt}
 use native.Mathlib.Omega.{arith}
 use borrow.Rule.Slice.PartMut.{putMid}
-use lib.IntN.{ℤ}
-use lib.ListN.{length, take, drop, set, length-set}
+use lib.IntN.{ℤ, pos}
+use lib.ListN.{length, take, drop, set, length-set, List·getD-eq-default}
 use lib.Seq.{take-all, drop-drop}
 use Rattle.polynomials.specs.Sum.{listed}
-use Rattle.polynomials.proofs.Listed.{listed-more, listed-all}
+use Rattle.polynomials.proofs.Listed.{length-listed, getD-listed, listed-more, listed-all}
+use Rattle.layout.specs.Numbers.{variablesRoom}
+use Rattle.layout.specs.Reading.{readings}
 use Rattle.layout.specs.Moving.{joined}
 use Rattle.blocks.specs.Ready.{placed}
 use Rattle.blocks.proofs.Filled.{length-placed, take-placed}
+
+-- the readings by value are the state's
+pub readings-held : (x : List ℤ) → length x ≤ variablesRoom → readings (listed variablesRoom (readings x)) ≡ readings x
+readings-held x h = fun-ext (λ i. pick i (decLt i variablesRoom))
+  where
+    pick : (i : ℕ) → Dec (i < variablesRoom) → readings (listed variablesRoom (readings x)) i ≡ readings x i
+    pick i (yes b) = getD-listed variablesRoom (readings x) i (pos 0) b
+    pick i (no b) =
+        List·getD-eq-default (listed variablesRoom (readings x)) (pos 0) (omega (arith, length-listed variablesRoom (readings x)))
+        ∙ sym (List·getD-eq-default x (pos 0) (omega arith))
 
 -- w * k + w of w * n
 pub part-of : (w k n : ℕ) → k < n → w * k + w ≤ w * n

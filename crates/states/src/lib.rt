@@ -6,12 +6,14 @@ ghost use lib.IntN.{pos};
 ghost use lib.ListN.{length};
 ghost use Rattle.polynomials.specs.Sum.{listed};
 ghost use Rattle.layout.specs.Shape.{shape};
+ghost use Rattle.layout.specs.Numbers.{variablesRoom};
 ghost use Rattle.layout.specs.Reading.{readings, readNumber, readOutput};
 ghost use Rattle.layout.specs.Moving.{joined};
 ghost use Rattle.layout.specs.Many.{zeros, numberAt, outputAt, manyNumber, manyNumbers, manyOutput};
 ghost use Rattle.tables.specs.Ready.{SoundRead};
 ghost use Rattle.states.specs.Ready.{SoundReads};
 use layout::Model;
+use layout::VARIABLES_ROOM;
 use layout::refusals::DONE;
 use layout::refusals::WRONG_OUTPUT;
 use layout::refusals::WRONG_TABLE;
@@ -36,11 +38,35 @@ fn clear(out: &mut [i64])
     }
 }
 
+// The reading of a variable.
+fn reading_of(state: &[i64], variable: usize) -> i64
+    ensures { λ r. ⌜ r ≡ readings (now (state .entry)) variable ⌝ }
+{
+    if variable < state.len() {
+        return state[variable];
+    }
+    0
+}
+
+// The readings of a state by value.
+fn held(state: &[i64]) -> [i64; VARIABLES_ROOM]
+    ensures { λ r. ⌜ r ≡ listed variablesRoom (readings (now (state .entry))) ⌝ }
+{
+    let mut held: [i64; VARIABLES_ROOM] = [0; VARIABLES_ROOM];
+    let mut i: usize = 0;
+    while i < VARIABLES_ROOM {
+        let reading = reading_of(state, i);
+        held[i] = reading;
+        i += 1;
+    }
+    held
+}
+
 // Reads one state of a sound table into zeros.
-fn read_cleared(model: Model, table: &[i64], state: &[i64], out: &mut [i64]) -> u64
-    requires { ⌜ SoundRead (shape model) (now table) (now state) (now out) ⌝ }
-    ensures number { λ r. ⌜ r ≡ readNumber (shape model) (now (table .entry)) (readings (now (state .entry))) (zeros (shape model)) ⌝ }
-    ensures output { λ r. ⌜ now (out .exit) ≡ readOutput (shape model) (now (table .entry)) (readings (now (state .entry))) (zeros (shape model)) ⌝ }
+fn read_cleared(model: Model, table: &[i64], state: [i64; VARIABLES_ROOM], out: &mut [i64]) -> u64
+    requires { ⌜ SoundRead (shape model) (now table) (now out) ⌝ }
+    ensures number { λ r. ⌜ r ≡ readNumber (shape model) (now (table .entry)) (readings state) (zeros (shape model)) ⌝ }
+    ensures output { λ r. ⌜ now (out .exit) ≡ readOutput (shape model) (now (table .entry)) (readings state) (zeros (shape model)) ⌝ }
 {
     clear(out);
     read_sound(model, table, state, out)
@@ -60,7 +86,8 @@ fn read_each(model: Model, table: &[i64], states: &[i64], numbers: &mut [u64], o
     while k < numbers.len() {
         let to = from + variables;
         let end = at + blocks;
-        let number = read_cleared(model, table, &states[from..to], &mut out[at..end]);
+        let state = held(&states[from..to]);
+        let number = read_cleared(model, table, state, &mut out[at..end]);
         numbers[k] = number;
         from = to;
         at = end;

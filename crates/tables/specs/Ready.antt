@@ -15,7 +15,6 @@ use Rattle.layout.specs.Refusals.{Refusal, _when_, first, wrongTable, wrongOutp
 -- to read every block's coefficient into an output
 pub record AllValued (S : Shape) (t : List ℤ) (n : ℕ) (x out : List ℤ) : Type 0 where
   pub room : length out ≡ S .blocks
-  pub state : length x ≡ S .variables
   pub valued : (b : ℕ) → b < S .blocks → Valued S t b n x
 
 -- what makes a table of the right length unsound
@@ -37,9 +36,8 @@ abbrev pub intoNumber : Shape → List ℤ → ℕ → ℕ
 intoNumber S t n = first (intoRefusals S t n)
 
 -- to read a table that is known to be sound
-pub record SoundRead (S : Shape) (t x out : List ℤ) : Type 0 where
+pub record SoundRead (S : Shape) (t out : List ℤ) : Type 0 where
   pub whole : length t ≡ tableLength S
   pub room : length out ≡ S .blocks
-  pub state : length x ≡ S .variables
   pub limits : good S t ≡ true
   pub weights : light S t ≡ true

@@ -23,7 +23,7 @@ five : {a b c d e p q r s t : ℤ} → a ≡ p → b ≡ q → c ≡ r → d ≡
 five f g h i j = cc
 
 abbrev start : tie.After-values → tie.Start
-start c = c .before .before .before .before .before .before
+start c = c .before .before .before .before .before
 
 enum-told : tie.Need-enum-told
 enum-told c = search needs
@@ -34,13 +34,10 @@ enum-known-line c = search needs
 slice-aggregate-read-known : tie.Need-slice-aggregate-read-known
 slice-aggregate-read-known c = search needs
 
-slice-aggregate-read-known-2 : tie.Need-slice-aggregate-read-known-2
-slice-aggregate-read-known-2 c = search needs
-
 read-known-requires : tie.Need-read-known-requires
 read-known-requires c κs =
     let a = start c in
-    (a .pre .0 ∙ into-room cumulus (a .args .table .now) (length zeros) refl, refl)
+    a .pre .0 ∙ into-room cumulus (a .args .table .now) (length zeros) refl
 
 -- the five readings, as they are handed on
 same-state : (c : tie.After-known-told) → let v = c .before .line .given .0 in
@@ -63,7 +60,7 @@ few : (c : tie.At-match-came) → c .match .number < 10000
 few c =
     ⊎-elim
     (λ w. subst (λ n. n < 10000) (sym (w .3)) (omega arith))
-    (λ w. subst (λ n. n < 10000) (sym (w .8 ∙ w .5 .ensures .0)) (read-few (at c .args .table .now) _ zeros))
+    (λ w. subst (λ n. n < 10000) (sym (w .7 ∙ w .4 .ensures .0)) (read-few (at c .args .table .now) _ zeros))
     (c .match .came)
 
 whole : (c : tie.At-match-came) → numbered (c .match .number) (c .match .values) ≡ lineAnswer (at c .args .table .now) (at c .args .line)
@@ -73,7 +70,7 @@ whole c =
     ⊎-elim
     (λ w. ap₂ numbered (w .3) (w .2) ∙ ap (lineAnswer t) (sym (w .1 .given .1)))
     (λ w. let same = same-state (record { before = record { before = record { before = c .before; match = w .0 }; line = w .1 }; known-told = w .2 }) in
-    ap₂ numbered (w .8 ∙ w .5 .ensures .0 ∙ ap (λ x. readNumber cumulus t (readings x) zeros) same) (w .7 ∙ w .5 .ensures .1 ∙ ap (λ x. readOutput cumulus t (readings x) zeros) same)
+    ap₂ numbered (w .7 ∙ w .4 .ensures .0 ∙ ap (λ x. readNumber cumulus t (readings x) zeros) same) (w .6 ∙ w .4 .ensures .1 ∙ ap (λ x. readOutput cumulus t (readings x) zeros) same)
     ∙ ap (lineAnswer t) (sym (w .1 .given .1)))
     (c .match .came)
 
@@ -99,7 +96,6 @@ put-line-spec =
     enum-told
     enum-known-line
     slice-aggregate-read-known
-    slice-aggregate-read-known-2
     read-known-requires
     put-answer-requires
     same-length

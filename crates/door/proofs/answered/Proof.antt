@@ -23,11 +23,8 @@ use Rattle.door.proofs.answered.Tie as tie
 slice-aggregate-write-values : tie.Need-slice-aggregate-write-values
 slice-aggregate-write-values c = search needs
 
-slice-aggregate-write-values-2 : tie.Need-slice-aggregate-write-values-2
-slice-aggregate-write-values-2 c = search needs
-
 write-values-requires : tie.Need-write-values-requires
-write-values-requires c κs = let a = c .before .before in record { room = refl; state = sym (slice-aggregate-write-values (c .before)); valued = a .pre }
+write-values-requires c κs = record { room = refl; valued = c .before .pre }
 
 array-copy-out-answer : tie.Need-array-copy-out-answer
 array-copy-out-answer c = search needs
@@ -68,10 +65,10 @@ answer-requires-6 c κs = tt
 -- the values, as they are written
 module _ (c : tie.After-write-values) where
   abbrev start : tie.Start
-  start = c .before .before .before
+  start = c .before .before
 
   valueAt : ℕ → ℤ
-  valueAt b = total (coefficient cumulus (start .args .table .now) b (piece (start .args .piece))) (readings (start .args .t3))
+  valueAt b = total (coefficient cumulus (start .args .table .now) b (piece (start .args .piece))) (readings (start .args .state))
 
   -- the float of one
   answer-is : (b : ℕ) → b < cumulus .blocks → (f : Float) → f ≡ floatOf (toZ w64 (ofZ w64 (getD (c .write-values .last .1 .1 .1 .1 .0) b (pos 0)))) → SFits w64 (getD (c .write-values .last .1 .1 .1 .1 .0) b (pos 0)) → f ≡ floatOf (valueAt b)
@@ -98,7 +95,6 @@ answered-spec =
     tie.close
     (tie.spec
     slice-aggregate-write-values
-    slice-aggregate-write-values-2
     write-values-requires
     array-copy-out-answer
     answer-requires

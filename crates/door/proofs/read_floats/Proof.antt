@@ -3,6 +3,7 @@ use mathlib.Core.Path.{_≡_, refl, sym, _∙_, ap, ap₂, subst, fun-ext}
 use mathlib.Core.Bool.{Bool, true, cond}
 use mathlib.Core.List.{List, _++_}
 use Prim.Native.Nat.{ℕ, _<_}
+use native.Mathlib.Nat as N
 use native.Mathlib.Omega.{arith}
 use borrow.Author.Needs.{needs}
 use lib.IntN.{ℤ, pos}
@@ -208,7 +209,7 @@ answered-requires c κs =
     let a = all c in
     let state = a .wholes-in .result in
     valued-in cumulus (t (d a)) (well-formed Cumulus) state (n c) (half c)
-    (ap length (a .wholes-in .ensures) ∙ length-listed (cumulus .variables) _) (known (d a) .0) (known (d a) .1 .1)
+    (N.le-of-eq (sym (ap length (a .wholes-in .ensures) ∙ length-listed (cumulus .variables) _))) (known (d a) .0) (known (d a) .1 .1)
     (λ i h. rw (state-is a i h, ← piece-is c) (within-piece (t (d a)) (x (d a)) (known (d a) .1 .0) (in-limits a) i h))
 
 returns-4 : tie.Need-returns-4

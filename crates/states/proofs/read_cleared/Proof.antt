@@ -24,7 +24,6 @@ read-sound-requires c κs =
     record {
       whole = a .pre .whole;
       room = ap length (cleared-is k) ∙ length-listed (shape (a .args .model) .blocks) (λ b. pos 0);
-      state = a .pre .state;
       limits = a .pre .limits;
       weights = a .pre .weights;
     }
@@ -38,7 +37,7 @@ returns c =
     let k = r .before .before .before in
     let a = k .before .before in
     let S = shape (a .args .model) in
-    let x = readings (a .args .state .now) in
+    let x = readings (a .args .state) in
     (r .read-sound .ensures .0 ∙ ap (readNumber S (a .args .table .now) x) (cleared-is k), r .read-sound .ensures .1 ∙ ap (readOutput S (a .args .table .now) x) (cleared-is k))
 
 pub read-cleared-spec : {M : Type 1} → statement M

@@ -10,9 +10,11 @@ use lib.ListN.{length, take, drop, set, length-drop}
 use lib.Seq.{length-take-le}
 use Rattle.layout.specs.declared.Model.{Model}
 use Rattle.layout.specs.Shape.{Shape, shape}
+use Rattle.layout.specs.Numbers.{variablesRoom}
 use Rattle.layout.specs.Reading.{readings, readNumber, readOutput}
 use Rattle.layout.specs.Many.{stateAt, zeros, numberAt, outputAt}
-use Rattle.states.proofs.Each.{Before, part-of, none-read, one-more, all-read}
+use Rattle.layout.proofs.Fine.{few-variables}
+use Rattle.states.proofs.Each.{readings-held, Before, part-of, none-read, one-more, all-read}
 use Rattle.states.proofs.read_each.Statement.{statement}
 use Rattle.states.proofs.read_each.Tie as tie
 
@@ -72,6 +74,11 @@ module _ (c : tie.In-loop Inv-loop μ-loop) where
   room-fits : 8 * (at + blocks) < 2 ^ 63
   room-fits = omega (arith, room, c .before .loop .inv .room, start .pre .room, start .good .1 .1 .1 .1 .0 .1)
 
+  given-few : length (take (from + variables - from) (drop from (start .args .states .now))) ≤ variablesRoom
+  given-few =
+      omega
+      (arith, length-take-le (from + variables - from) (drop from (start .args .states .now)) (omega (arith, given, length-drop from (start .args .states .now))), variables-are, few-variables (start .args .model))
+
   part-long : length (take (at + blocks - at) (drop at (c .before .loop .out))) ≡ S .blocks
   part-long =
       omega (arith, length-take-le (at + blocks - at) (drop at (c .before .loop .out)) (omega (arith, room, length-drop at (c .before .loop .out))), blocks-are)
@@ -91,8 +98,23 @@ add-to c = omega (arith, given-fits c)
 add-end : tie.Need-add-end Inv-loop μ-loop
 add-end c = omega (arith, room-fits c)
 
+mul-held : tie.Need-mul-held Inv-loop μ-loop
+mul-held c = omega (arith, given-fits c)
+
+sub-held : tie.Need-sub-held Inv-loop μ-loop
+sub-held c = omega arith
+
+part-held-start : tie.Need-part-held-start Inv-loop μ-loop
+part-held-start c = omega arith
+
+part-held-end : tie.Need-part-held-end Inv-loop μ-loop
+part-held-end c = given c
+
+held-requires : tie.Need-held-requires Inv-loop μ-loop
+held-requires c κs = tt
+
 mul-read-cleared : tie.Need-mul-read-cleared Inv-loop μ-loop
-mul-read-cleared c = omega (arith, given-fits c)
+mul-read-cleared c = omega (arith, room-fits (c .before .before))
 
 sub-read-cleared : tie.Need-sub-read-cleared Inv-loop μ-loop
 sub-read-cleared c = omega arith
@@ -101,31 +123,13 @@ part-read-cleared-start : tie.Need-part-read-cleared-start Inv-loop μ-loop
 part-read-cleared-start c = omega arith
 
 part-read-cleared-end : tie.Need-part-read-cleared-end Inv-loop μ-loop
-part-read-cleared-end c = given c
-
-mul-read-cleared-2 : tie.Need-mul-read-cleared-2 Inv-loop μ-loop
-mul-read-cleared-2 c = omega (arith, room-fits (c .before))
-
-sub-read-cleared-2 : tie.Need-sub-read-cleared-2 Inv-loop μ-loop
-sub-read-cleared-2 c = omega arith
-
-part-read-cleared-start-2 : tie.Need-part-read-cleared-start-2 Inv-loop μ-loop
-part-read-cleared-start-2 c = omega arith
-
-part-read-cleared-end-2 : tie.Need-part-read-cleared-end-2 Inv-loop μ-loop
-part-read-cleared-end-2 c = room (c .before)
+part-read-cleared-end c = room (c .before .before)
 
 read-cleared-requires : tie.Need-read-cleared-requires Inv-loop μ-loop
 read-cleared-requires c κs =
-    let d = c .before .before in
+    let d = c .before .before .before in
     let a = start d in
-    record {
-      whole = a .pre .whole;
-      room = part-long d;
-      state = omega (arith, length-take-le (from d + variables d - from d) (drop (from d) (a .args .states .now)) (omega (arith, given d, length-drop (from d) (a .args .states .now))), variables-are d);
-      limits = a .pre .limits;
-      weights = a .pre .weights;
-    }
+    record { whole = a .pre .whole; room = part-long d; limits = a .pre .limits; weights = a .pre .weights }
 
 mul-numbers : tie.Need-mul-numbers Inv-loop μ-loop
 mul-numbers c = search needs
@@ -137,21 +141,25 @@ add-k : tie.Need-add-k Inv-loop μ-loop
 add-k c = search needs
 
 loop-less : tie.Need-loop-less Inv-loop μ-loop
-loop-less c = omega (arith, there (c .before .before .before .before))
+loop-less c = omega (arith, there (c .before .before .before .before .before))
 
 loop-again : tie.Need-loop-again Inv-loop μ-loop
 loop-again c =
-    let d = c .before .before .before .before in
+    let h = c .before .before .before in
+    let d = h .before .before in
     let a = start d in
     let r = c .before .read-cleared in
     let l = d .before .loop in
     let count-is : from d + variables d - from d ≡ S d .variables = omega (arith, variables-are d) in
-    let state-is : take (from d + variables d - from d) (drop (from d) (a .args .states .now)) ≡ stateAt (S d) (a .args .states .now) (k d) =
+    let part-is : take (from d + variables d - from d) (drop (from d) (a .args .states .now)) ≡ stateAt (S d) (a .args .states .now) (k d) =
     ap₂ (λ m f. take m (drop f (a .args .states .now))) count-is (l .inv .from-is)
     in
+    let state-is : readings (h .held .result) ≡ readings (stateAt (S d) (a .args .states .now) (k d)) =
+    ap readings (h .held .ensures) ∙ readings-held (take (from d + variables d - from d) (drop (from d) (a .args .states .now))) (given-few d) ∙ ap readings part-is
+    in
     subst₂ (λ v b. Before (S d .variables) (S d .blocks) (n d) (numberAt (S d) (a .args .table .now) (a .args .states .now)) (outputAt (S d) (a .args .table .now) (a .args .states .now)) (set (l .numbers) (k d) (r .result)) (putMid (at d) (at d + b - at d) (l .out) (r .last .1 .1 .1 .0)) (from d + v) (at d + b) (k d + 1)) (sym (variables-are d)) (sym (blocks-are d))
-    (one-more _ _ _ _ _ (l .numbers) (l .out) (from d) (at d) (k d) (there d) (l .inv) (r .result) (r .last .1 .1 .1 .0) (r .ensures .0 ∙ ap (λ x. readNumber (S d) (a .args .table .now) (readings x) (zeros (S d))) state-is)
-    (r .ensures .1 ∙ ap (λ x. readOutput (S d) (a .args .table .now) (readings x) (zeros (S d))) state-is)
+    (one-more _ _ _ _ _ (l .numbers) (l .out) (from d) (at d) (k d) (there d) (l .inv) (r .result) (r .last .1 .1 .1 .0) (r .ensures .0 ∙ ap (λ x. readNumber (S d) (a .args .table .now) x (zeros (S d))) state-is)
+    (r .ensures .1 ∙ ap (λ x. readOutput (S d) (a .args .table .now) x (zeros (S d))) state-is)
     (r .kept .1 .1 .1 .0 ∙ part-long d))
 
 same-length : tie.Need-same-length Inv-loop μ-loop
@@ -176,14 +184,15 @@ read-each-spec =
     loop-holds
     add-to
     add-end
+    mul-held
+    sub-held
+    part-held-start
+    part-held-end
+    held-requires
     mul-read-cleared
     sub-read-cleared
     part-read-cleared-start
     part-read-cleared-end
-    mul-read-cleared-2
-    sub-read-cleared-2
-    part-read-cleared-start-2
-    part-read-cleared-end-2
     read-cleared-requires
     mul-numbers
     slice-write-numbers

@@ -1,4 +1,4 @@
--- `tables::reading::held` meets its contract. The loop's invariant: the places before `i` hold the readings. Assumes nothing.
+-- `states::held` meets its contract. The loop's invariant: the places before `i` hold the readings. Assumes nothing.
 use mathlib.Core.Path.{_≡_, refl, _∙_}
 use Prim.Native.Nat.{_-_, _≤_}
 use native.Mathlib.Omega.{arith}
@@ -9,8 +9,8 @@ use Rattle.polynomials.specs.Sum.{listed}
 use Rattle.polynomials.proofs.Listed.{listed-more, listed-all}
 use Rattle.layout.specs.Numbers.{variablesRoom}
 use Rattle.layout.specs.Reading.{readings}
-use Rattle.tables.proofs.reading.held.Statement.{statement}
-use Rattle.tables.proofs.reading.held.Tie as tie
+use Rattle.states.proofs.held.Statement.{statement}
+use Rattle.states.proofs.held.Tie as tie
 
 abbrev Inv-loop : tie.InvT-loop
 Inv-loop state held₀ i₀ held i = (i ≤ variablesRoom) × (length held ≡ variablesRoom) × (take i held ≡ listed i (readings state))

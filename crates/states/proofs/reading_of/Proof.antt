@@ -1,11 +1,11 @@
--- `tables::reading::reading_of` meets its contract: past the end of a state its reading is 0. Assumes nothing.
+-- `states::reading_of` meets its contract: past the end of a state its reading is 0. Assumes nothing.
 use mathlib.Core.Path.{sym}
 use native.Mathlib.Omega.{arith}
 use borrow.Author.Needs.{needs}
 use lib.IntN.{pos}
 use lib.ListN.{List·getD-eq-default}
-use Rattle.tables.proofs.reading.reading_of.Statement.{statement}
-use Rattle.tables.proofs.reading.reading_of.Tie as tie
+use Rattle.states.proofs.reading_of.Statement.{statement}
+use Rattle.states.proofs.reading_of.Tie as tie
 
 mul-result : tie.Need-mul-result
 mul-result c = search needs
