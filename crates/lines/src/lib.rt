@@ -15,19 +15,19 @@ pub enum Line {
     Malformed,
 }
 
-// The digits of a word in one number: their value in the lowest 16 bits, and above it a 1 that is ten times as high for each digit. A digit
-// more is one product and one sum, and one test says how many there are.
-const NONE: u64 = 65_536;
+// The digits of a word in one number: k of them with the value v are 2^16 * 10^k + v. A digit more is a product and a sum, one test says whether
+// there are so many, and the value is the lowest 16 bits.
+const NO_DIGIT: u64 = 65_536;
 
-const ONE: u64 = 10 * NONE;
+const ONE_DIGIT: u64 = 10 * NO_DIGIT;
 
-const FOUR: u64 = 10_000 * NONE;
+const FOUR_DIGITS: u64 = 10_000 * NO_DIGIT;
 
 // What is known of a line from the bytes so far.
 pub struct State {
     // How many words have ended; five where no bytes that follow make it a line of five numbers.
     pub words: u64,
-    // The word that has not ended: 1 behind a minus, and its digits.
+    // The word that has not ended: 1 where it has a minus, and its digits.
     pub minus: u64,
     pub digits: u64,
     // The numbers of the last four words that have ended.
@@ -41,7 +41,7 @@ pub struct State {
 fn number(minus: u64, digits: u64) -> i64
     ensures { λ r. ⌜ r ≡ numberOf minus digits ⌝ }
 {
-    let plain = (digits % NONE) as i64;
+    let plain = (digits % NO_DIGIT) as i64;
     if minus > 0 {
         return -plain;
     }
@@ -56,7 +56,7 @@ impl State {
         State {
             words: 0,
             minus: 0,
-            digits: NONE,
+            digits: NO_DIGIT,
             alpha: 0,
             beta: 0,
             xi: 0,
@@ -75,7 +75,7 @@ impl State {
     fn ended(self) -> State
         ensures { λ r. ⌜ r ≡ ended self ⌝ }
     {
-        if self.digits < ONE {
+        if self.digits < ONE_DIGIT {
             return self.refused();
         }
         if self.words >= 4 {
@@ -84,7 +84,7 @@ impl State {
         State {
             words: self.words + 1,
             minus: 0,
-            digits: NONE,
+            digits: NO_DIGIT,
             alpha: self.beta,
             beta: self.xi,
             xi: self.eta,
@@ -99,7 +99,7 @@ impl State {
         if self.minus > 0 {
             return self.refused();
         }
-        if self.digits >= ONE {
+        if self.digits >= ONE_DIGIT {
             return self.refused();
         }
         self.minus = 1;
@@ -111,7 +111,7 @@ impl State {
         requires { ⌜ next ≤ 9 ⌝ }
         ensures { λ r. ⌜ r ≡ digit self next ⌝ }
     {
-        if self.digits >= FOUR {
+        if self.digits >= FOUR_DIGITS {
             return self.refused();
         }
         self.digits = self.digits * 10 + next;
@@ -123,7 +123,7 @@ impl State {
         ensures { λ r. ⌜ r ≡ stepped self byte ⌝ }
     {
         if byte >= b'0' && byte <= b'9' {
-            return self.digit(byte as u64 - 48);
+            return self.digit(byte as u64 - b'0' as u64);
         }
         if byte == b' ' {
             return self.ended();
@@ -141,7 +141,7 @@ impl State {
         if self.words != 4 {
             return Line::Malformed;
         }
-        if self.digits < ONE {
+        if self.digits < ONE_DIGIT {
             return Line::Malformed;
         }
         Line::Readings {

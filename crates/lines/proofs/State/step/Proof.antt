@@ -24,6 +24,9 @@ no-digit c =
     let b = c .before .args .byte in
     ⊎-elim (λ w. ap₂ _&&_ (le-leb 48 b (w .0 .taken)) (w .1 .left)) (λ w. ap (λ t. t && leb b 57) (lt-leb 48 b (w .left))) (c .if1 .came)
 
+cast-digit : tie.Need-cast-digit
+cast-digit c = search needs
+
 sub-digit : tie.Need-sub-digit
 sub-digit c = search needs
 
@@ -55,6 +58,7 @@ pub step-spec : {M : Type 1} → statement M
 step-spec =
     tie.close
     (tie.spec
+    cast-digit
     sub-digit
     digit-requires
     returns
