@@ -2,7 +2,7 @@
 --   none-yet, has-digit, full, room   what its size says of k
 --   value                             what its lowest bits say of v
 --   empty, more                       no digit, and one more
-use mathlib.Core.Path.{_≡_, refl, sym, ap, _∙_}
+use mathlib.Core.Path.{_≡_, refl, ap, _∙_}
 use Prim.Native.Nat.{ℕ, zero, suc, _+_, _*_, _%_, _^_, _<_, _≤_}
 use native.Mathlib.Nat.{pow-suc}
 use native.Mathlib.Numerals.{add-one}

@@ -1,5 +1,5 @@
 -- What the reading of a line knows after each byte. That it ends in what `Line` says of the whole line is shown in `proofs/Parsed`.
-use mathlib.Core.Bool.{Bool, cond, not}
+use mathlib.Core.Bool.{cond, not}
 use mathlib.Core.List.{List, [], _∷_}
 use Prim.Native.Nat.{ℕ, _+_, _*_, _-_, _%_}
 use lib.Dec.{leb, ltb, eqb}
