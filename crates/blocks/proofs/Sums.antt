@@ -3,8 +3,8 @@
 --   Summed       what a loop over the groups has summed, with summed-own: once the piece's own group is read, summed-all: at the end
 --   next-ready, more-fits, summed-more   the next group can be read, and the sum with it
 use mathlib.Core.Path.{_≡_, sym, _∙_, ap, subst}
-use mathlib.Core.List.{List, [], _∷_}
-use Prim.Native.Nat.{ℕ, suc, _+_, _*_, _≤_, _<_}
+use mathlib.Core.List.{List, _∷_}
+use Prim.Native.Nat.{ℕ, suc, _+_, _≤_}
 use native.Mathlib.Nat as N
 use native.Mathlib.Omega.{arith}
 use lib.IntN.{ℤ, natAbs, _+ℤ_, +ℤ-idr, +ℤ-assoc}

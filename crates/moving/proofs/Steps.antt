@@ -16,12 +16,12 @@ use Prim.Native.Nat.{ℕ, zero, suc, _+_, _-_, _≤_, _<_}
 use native.Mathlib.Nat as N
 use native.Mathlib.Omega.{arith}
 use lib.Dec.{eqb}
-use lib.IntN.{ℤ, pos, natAbs, _-ℤ_}
+use lib.IntN.{ℤ, pos, natAbs}
 use lib.ListN.{length, take}
 use lib.Seq.{getD-take, length-take-le}
 use Rattle.polynomials.specs.Sum.{listed}
 use Rattle.polynomials.specs.Groups.{longer}
-use Rattle.polynomials.proofs.Listed.{length-listed, getD-listed, listed-is}
+use Rattle.polynomials.proofs.Listed.{length-listed, listed-is}
 use Rattle.layout.specs.declared.Model.{Model}
 use Rattle.layout.specs.Shape.{Shape, WellFormed, limitsLength, tableLength, shape}
 use Rattle.layout.specs.Numbers.{limitsRoom}

@@ -11,7 +11,6 @@ use native.Mathlib.Omega.{arith}
 use lib.IntN.{ℤ, pos}
 use lib.ListN.{take}
 use lib.Seq.{getD-take}
-use Rattle.polynomials.specs.Sum.{listed}
 use Rattle.polynomials.proofs.Listed.{listed-ext}
 use Rattle.layout.specs.declared.Model.{Model}
 use Rattle.layout.specs.Shape.{Shape, shape}
@@ -21,7 +20,6 @@ use Rattle.layout.specs.Blocks.{Piece, low, high}
 use Rattle.layout.specs.Sound.{reach, withinCap, light}
 use Rattle.layout.specs.Reaches.{listedReaches, reachesOf}
 use Rattle.layout.specs.Refusals.{first, _when_, outside}
-use Rattle.layout.specs.Reading.{inside}
 use Rattle.layout.proofs.Fine.{well-formed, few-variables, few-limits}
 use Rattle.laws.proofs.LimitLaws.{SameLimits, good-same, allInRange-same, reach-same, inside-same, cut-same}
 use Rattle.laws.proofs.Reaches.{reach-other, listed-back}

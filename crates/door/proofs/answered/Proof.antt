@@ -1,5 +1,5 @@
 -- `door::answered` meets its contract, field by field: the values are written by the shared code, and each is answered as a float. Assumes nothing.
-use mathlib.Core.Path.{_≡_, refl, sym, _∙_, ap}
+use mathlib.Core.Path.{_≡_, refl, _∙_, ap}
 use Prim.Native.Nat.{ℕ, _<_}
 use native.Mathlib.Omega.{arith}
 use borrow.Author.Needs.{needs, sfits-of}
@@ -15,7 +15,6 @@ use Rattle.layout.specs.Shape.{cumulus}
 use Rattle.layout.specs.Blocks.{coefficient, piece}
 use Rattle.layout.specs.Reading.{readings}
 use Rattle.rounding.specs.Answer.{floatOf}
-use Rattle.tables.specs.Ready.{AllValued}
 use Rattle.door.specs.Steps.{positiveZero}
 use Rattle.door.proofs.answered.Statement.{statement}
 use Rattle.door.proofs.answered.Tie as tie

@@ -3,26 +3,22 @@
 use mathlib.Core.Path.{_≡_, sym, _∙_, ap, ap₂, subst}
 use mathlib.Core.Bool.{true}
 use mathlib.Core.List.{List, []}
-use Prim.Native.Nat.{ℕ, _≤_, _<_}
-use native.Mathlib.Omega.{arith}
+use Prim.Native.Nat.{ℕ}
 use borrow.Author.Tests.{not-true, not-false}
 use lib.IntN.{ℤ, natAbs}
-use mir.Syntax.{w64}
-use mir.Val.{toZ, ofZ}
 use mir.Facts.{toZ-ofZ}
 use Rattle.polynomials.specs.Sum.{listed}
 use Rattle.layout.specs.declared.Model.{Model}
 use Rattle.layout.specs.Shape.{Shape, shape}
 use Rattle.layout.specs.Numbers.{reachesRoom}
-use Rattle.layout.specs.Limits.{longestShift, allInRange}
+use Rattle.layout.specs.Limits.{allInRange}
 use Rattle.layout.specs.Sound.{reach, withinCap}
 use Rattle.layout.specs.Reaches.{listedReaches, reachesOf}
 use Rattle.layout.specs.Moving.{movedLimits, moveLight}
 use Rattle.layout.specs.Refusals.{limitPast, moveTooHeavy}
-use Rattle.layout.proofs.Fine.{some-table}
 use Rattle.laws.proofs.Reaches.{listed-one, listed-longer}
 use Rattle.laws.proofs.Refused.{first-skip, first-hit}
-use Rattle.tables.proofs.Taken.{first-nothing, good-taken}
+use Rattle.tables.proofs.Taken.{first-nothing}
 use Rattle.moving.specs.Ready.{longerAt, Lengthened}
 use Rattle.moving.proofs.Steps.{movedRoom, moved-good, moved-range, moved-reaches, longerReach, lengthened, move-one, move-light}
 use Rattle.moving.proofs.refusal.Statement.{statement}

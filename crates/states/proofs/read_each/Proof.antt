@@ -1,14 +1,11 @@
 -- `states::read_each` meets its contract. The loop's invariant: the states before `k` are read, and stand at their places. Assumes nothing.
 use mathlib.Core.Path.{_≡_, refl, sym, _∙_, ap, ap₂, subst₂}
-use mathlib.Core.List.{List}
 use Prim.Native.Nat.{ℕ, _+_, _-_, _*_, _^_, _≤_, _<_}
 use native.Mathlib.Omega.{arith}
 use borrow.Author.Needs.{needs}
 use borrow.Rule.Slice.PartMut.{putMid}
-use lib.IntN.{ℤ}
 use lib.ListN.{length, take, drop, set, length-drop}
 use lib.Seq.{length-take-le}
-use Rattle.layout.specs.declared.Model.{Model}
 use Rattle.layout.specs.Shape.{Shape, shape}
 use Rattle.layout.specs.Numbers.{variablesRoom}
 use Rattle.layout.specs.Reading.{readings, readNumber, readOutput}
