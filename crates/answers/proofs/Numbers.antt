@@ -8,7 +8,7 @@ use lib.IntN.{ℤ}
 use lib.ListN.{length}
 use Rattle.polynomials.specs.Sum.{listed}
 use Rattle.layout.specs.Shape.{cumulus}
-use Rattle.layout.specs.Reading.{readRefusals, readNumber}
+use Rattle.layout.specs.Reading.{read_refusals, read_number}
 use Rattle.layout.specs.Refusals.{Refusal, first}
 
 abbrev Few : List Refusal → Type 0
@@ -24,8 +24,8 @@ unfolding first
 first-few [] h = omega arith
 first-few (r ∷ rs) h = either r.holds r.number (first rs) h.0 (first-few rs h.1)
 
-pub read-few : (t : List ℤ) (x : ℕ → ℤ) (out : List ℤ) → readNumber cumulus t x out < 10000
-unfolding readNumber listed
+pub read-few : (t : List ℤ) (x : ℕ → ℤ) (out : List ℤ) → read_number cumulus t x out < 10000
+unfolding read_number listed
 read-few t x out =
-    first-few (readRefusals cumulus t x (length out))
+    first-few (read_refusals cumulus t x (length out))
     (omega arith, (omega arith, (omega arith, (omega arith, (omega arith, (omega arith, (omega arith, (omega arith, (omega arith, tt)))))))))

@@ -1,10 +1,10 @@
 // Answering lines of readings: for each line the number given back and the six coefficients of a table, in decimal.
 ghost use Rattle.std.specs.Prelude.{◌≡◌, ◌+◌, ◌<◌, ◌≤◌, length};
 ghost use Rattle.printing.specs.Spell.{written};
-ghost use Rattle.answers.specs.Answers.{spaced, numbered, lineAnswer, longestValues, longest};
+ghost use Rattle.answers.specs.Answers.{spaced, numbered, line_answer, longest_values, longest};
 ghost use Rattle.layout.specs.Shape.{cumulus};
-ghost use Rattle.tables.specs.Ready.{tableNumber};
-ghost use Rattle.answers.specs.Reading.{fresh, lastIn, Feeding, LinePart, Taking, Taken};
+ghost use Rattle.tables.specs.Ready.{table_number};
+ghost use Rattle.answers.specs.Reading.{fresh, last_in, Feeding, LinePart, Taking, Taken};
 
 use layout::Model;
 use layout::cumulus_one::BLOCKS;
@@ -46,10 +46,10 @@ pub struct Fed {
 
 // Six coefficients, each behind a space, from the place `at` on; gives the place behind them.
 fn put_values(values: [i64; BLOCKS], out: &mut [u8], at: usize) -> usize
-    requires { at + longestValues ≤ length out.old }
+    requires { at + longest_values ≤ length out.old }
     ensures place { result ≡ at + length (spaced values) }
     ensures output { out.new ≡ written out.old at (spaced values) }
-    ensures room { result ≤ at + longestValues }
+    ensures room { result ≤ at + longest_values }
 {
     let mut place = at;
     let mut k: usize = 0;
@@ -76,9 +76,9 @@ fn put_answer(number: u64, values: [i64; BLOCKS], out: &mut [u8], at: usize) -> 
 
 // The answer of a table, whose own refusal is known, to a line, from the place `at` on; gives the place behind it.
 fn put_line(table: &[i64], refused: u64, line: Line, out: &mut [u8], at: usize) -> usize
-    requires { (refused ≡ tableNumber cumulus table.now) × (at + longest ≤ length out.old) }
-    ensures place { result ≡ at + length (lineAnswer table.now line) }
-    ensures output { out.new ≡ written out.old at (lineAnswer table.now line) }
+    requires { (refused ≡ table_number cumulus table.now) × (at + longest ≤ length out.old) }
+    ensures place { result ≡ at + length (line_answer table.now line) }
+    ensures output { out.new ≡ written out.old at (line_answer table.now line) }
     ensures room { result ≤ at + longest }
 {
     let mut values = [0i64; BLOCKS];
@@ -183,8 +183,8 @@ pub fn feed(table: &[i64], reading: Reading, input: &[u8], out: &mut [u8]) -> Fe
 // At the end of the input: writes the answer to a last line that no newline ends, and gives its length. Writes nothing where there is no
 // such line, or no room for the longest answer.
 pub fn finish(table: &[i64], reading: Reading, out: &mut [u8]) -> usize
-    ensures count { result ≡ length (lastIn table.now reading (length out.old)) }
-    ensures output { out.new ≡ written out.old 0 (lastIn table.now reading (length out.old)) }
+    ensures count { result ≡ length (last_in table.now reading (length out.old)) }
+    ensures output { out.new ≡ written out.old 0 (last_in table.now reading (length out.old)) }
     ensures room { result ≤ length out.old }
 {
     if out.len() < LONGEST {

@@ -1,12 +1,12 @@
 // One block of a table: the value of its coefficient, and its groups moved.
 ghost use Rattle.std.specs.Prelude.{◌≡◌, ℤ, length, take, drop};
-ghost use Rattle.polynomials.specs.Binomial.{multipliedRows, shiftIn};
+ghost use Rattle.polynomials.specs.Binomial.{multiplied_rows, shift_in};
 ghost use Rattle.polynomials.specs.Group.{value};
-ghost use Rattle.polynomials.specs.Groups.{grouped, total, movedGroup};
+ghost use Rattle.polynomials.specs.Groups.{grouped, total, moved_group};
 ghost use Rattle.layout.specs.Shape.{shape};
 ghost use Rattle.layout.specs.Blocks.{coefficient, piece as piece_of};
 ghost use Rattle.layout.specs.Reading.{readings};
-ghost use Rattle.layout.specs.Moving.{movedBlock};
+ghost use Rattle.layout.specs.Moving.{moved_block};
 ghost use Rattle.blocks.specs.Ready.{between, placed, GroupAt, Valued, ShiftableGroup, Between, Shiftable};
 
 use layout::Model;
@@ -69,9 +69,9 @@ fn move_part(
     rows: &[[i64; 5]; 5],
 )
     ghost shift: { ℤ }
-    requires rows_value { shiftIn rows.now ≡ shift }
-    requires rows_value_2 { (rows.now ≡ multipliedRows shift) × ((length out.old ≡ length from.now) × ShiftableGroup u v variable shift from.now) }
-    ensures { out.new ≡ (movedGroup variable shift (grouped u v from.now)).numbers }
+    requires rows_value { shift_in rows.now ≡ shift }
+    requires rows_value_2 { (rows.now ≡ multiplied_rows shift) × ((length out.old ≡ length from.now) × ShiftableGroup u v variable shift from.now) }
+    ensures { out.new ≡ (moved_group variable shift (grouped u v from.now)).numbers }
 {
     if u == variable {
         shifting::move_group(from, out, Variable::First, rows);
@@ -96,9 +96,9 @@ fn move_between(
     rows: &[[i64; 5]; 5],
 )
     ghost shift: { ℤ }
-    requires rows_value { shiftIn rows.now ≡ shift }
-    requires rows_value_2 { (rows.now ≡ multipliedRows shift) × Between from.now out.old start end u v variable shift }
-    ensures { out.new ≡ placed out.old start end (movedGroup variable shift (grouped u v (between from.now start end))).numbers }
+    requires rows_value { shift_in rows.now ≡ shift }
+    requires rows_value_2 { (rows.now ≡ multiplied_rows shift) × Between from.now out.old start end u v variable shift }
+    ensures { out.new ≡ placed out.old start end (moved_group variable shift (grouped u v (between from.now start end))).numbers }
 {
     move_part(
         &from[start..end],
@@ -120,9 +120,9 @@ pub fn move_block(
     rows: &[[i64; 5]; 5],
 )
     ghost shift: { ℤ }
-    requires rows_value { shiftIn rows.now ≡ shift }
-    requires rows_value_2 { (rows.now ≡ multipliedRows shift) × ((length out.old ≡ length from.now) × Shiftable (shape model) variable shift from.now) }
-    ensures { out.new ≡ movedBlock (shape model) variable shift from.now }
+    requires rows_value { shift_in rows.now ≡ shift }
+    requires rows_value_2 { (rows.now ≡ multiplied_rows shift) × ((length out.old ≡ length from.now) × Shiftable (shape model) variable shift from.now) }
+    ensures { out.new ≡ moved_block (shape model) variable shift from.now }
 {
     let own = shapes::kind(model, 0);
     let size = shapes::size(own);

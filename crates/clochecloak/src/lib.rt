@@ -1,21 +1,21 @@
 // The operations for hosts in C, which hold tables as numbers. A slice is a pointer and a count of numbers.
 ghost use Rattle.std.specs.Prelude.{◌≡◌, [], ◌∷◌};
 ghost use Rattle.layout.specs.Shape.{cumulus, gtm};
-ghost use Rattle.layout.specs.Reading.{readings, readNumber, readOutput};
-ghost use Rattle.layout.specs.Many.{manyNumber, manyNumbers, manyOutput};
-ghost use Rattle.layout.specs.Moving.{moveNumber, moveOutput};
-ghost use Rattle.layout.specs.Publishing.{publishNumber, publishOutput};
+ghost use Rattle.layout.specs.Reading.{readings, read_number, read_output};
+ghost use Rattle.layout.specs.Many.{many_number, many_numbers, many_output};
+ghost use Rattle.layout.specs.Moving.{move_number, move_output};
+ghost use Rattle.layout.specs.Publishing.{publish_number, publish_output};
 ghost use Rattle.cumulus_page.specs.Published.{published};
-ghost use Rattle.gtm_page.specs.Published.{published as gtmPublished};
-ghost use Rattle.microradians.specs.Answer.{fineNumber, fineOutput};
-ghost use Rattle.door.specs.Door.{floats, doorAnswer};
+ghost use Rattle.gtm_page.specs.Published.{published as gtm_published};
+ghost use Rattle.microradians.specs.Answer.{fine_number, fine_output};
+ghost use Rattle.door.specs.Door.{floats, door_answer};
 
 use door::Answer;
 
 #[unsafe(no_mangle)]
 pub extern "C" fn clochecloak_publish(out: &mut [i64]) -> u64
-    ensures number { result ≡ publishNumber published out.old }
-    ensures output { out.new ≡ publishOutput published out.old }
+    ensures number { result ≡ publish_number published out.old }
+    ensures output { out.new ≡ publish_output published out.old }
 {
     cumulus::publish(out)
 }
@@ -30,8 +30,8 @@ pub extern "C" fn clochecloak_read(
     zeta: i64,
     out: &mut [i64],
 ) -> u64
-    ensures number { result ≡ readNumber cumulus table.now (readings (alpha ∷ beta ∷ xi ∷ eta ∷ zeta ∷ [])) out.old }
-    ensures output { out.new ≡ readOutput cumulus table.now (readings (alpha ∷ beta ∷ xi ∷ eta ∷ zeta ∷ [])) out.old }
+    ensures number { result ≡ read_number cumulus table.now (readings (alpha ∷ beta ∷ xi ∷ eta ∷ zeta ∷ [])) out.old }
+    ensures output { out.new ≡ read_output cumulus table.now (readings (alpha ∷ beta ∷ xi ∷ eta ∷ zeta ∷ [])) out.old }
 {
     let state = [alpha, beta, xi, eta, zeta];
     cumulus::read(table, state, out)
@@ -44,9 +44,9 @@ pub extern "C" fn clochecloak_read_many(
     numbers: &mut [u64],
     out: &mut [i64],
 ) -> u64
-    ensures number { result ≡ manyNumber cumulus table.now states.now numbers.old out.old }
-    ensures numbers { numbers.new ≡ manyNumbers cumulus table.now states.now numbers.old out.old }
-    ensures output { out.new ≡ manyOutput cumulus table.now states.now numbers.old out.old }
+    ensures number { result ≡ many_number cumulus table.now states.now numbers.old out.old }
+    ensures numbers { numbers.new ≡ many_numbers cumulus table.now states.now numbers.old out.old }
+    ensures output { out.new ≡ many_output cumulus table.now states.now numbers.old out.old }
 {
     cumulus::read_many(table, states, numbers, out)
 }
@@ -60,8 +60,8 @@ pub extern "C" fn clochecloak_read_microradians(
     zeta: i64,
     out: &mut [i64],
 ) -> u64
-    ensures number { result ≡ fineNumber (readings (alpha ∷ beta ∷ xi ∷ eta ∷ zeta ∷ [])) out.old }
-    ensures output { out.new ≡ fineOutput (readings (alpha ∷ beta ∷ xi ∷ eta ∷ zeta ∷ [])) out.old }
+    ensures number { result ≡ fine_number (readings (alpha ∷ beta ∷ xi ∷ eta ∷ zeta ∷ [])) out.old }
+    ensures output { out.new ≡ fine_output (readings (alpha ∷ beta ∷ xi ∷ eta ∷ zeta ∷ [])) out.old }
 {
     microradians::read([alpha, beta, xi, eta, zeta], out)
 }
@@ -73,8 +73,8 @@ pub extern "C" fn clochecloak_move(
     shift: i64,
     out: &mut [i64],
 ) -> u64
-    ensures number { result ≡ moveNumber cumulus table.now variable shift out.old }
-    ensures output { out.new ≡ moveOutput cumulus table.now variable shift out.old }
+    ensures number { result ≡ move_number cumulus table.now variable shift out.old }
+    ensures output { out.new ≡ move_output cumulus table.now variable shift out.old }
 {
     cumulus::move_datum(table, variable, shift, out)
 }
@@ -88,7 +88,7 @@ pub extern "C" fn clochecloak_read_floats(
     eta: f64,
     zeta: f64,
 ) -> Answer
-    ensures { result ≡ doorAnswer table.now (floats (alpha ∷ beta ∷ xi ∷ eta ∷ zeta ∷ [])) }
+    ensures { result ≡ door_answer table.now (floats (alpha ∷ beta ∷ xi ∷ eta ∷ zeta ∷ [])) }
 {
     let readings = [alpha, beta, xi, eta, zeta];
     door::read_floats(table, readings)
@@ -97,16 +97,16 @@ pub extern "C" fn clochecloak_read_floats(
 // The GTM's longitudinal model: another table, with alpha and eta for its variables.
 #[unsafe(no_mangle)]
 pub extern "C" fn clochecloak_gtm_publish(out: &mut [i64]) -> u64
-    ensures number { result ≡ publishNumber gtmPublished out.old }
-    ensures output { out.new ≡ publishOutput gtmPublished out.old }
+    ensures number { result ≡ publish_number gtm_published out.old }
+    ensures output { out.new ≡ publish_output gtm_published out.old }
 {
     gtm::publish(out)
 }
 
 #[unsafe(no_mangle)]
 pub extern "C" fn clochecloak_gtm_read(table: &[i64], alpha: i64, eta: i64, out: &mut [i64]) -> u64
-    ensures number { result ≡ readNumber gtm table.now (readings (alpha ∷ eta ∷ [])) out.old }
-    ensures output { out.new ≡ readOutput gtm table.now (readings (alpha ∷ eta ∷ [])) out.old }
+    ensures number { result ≡ read_number gtm table.now (readings (alpha ∷ eta ∷ [])) out.old }
+    ensures output { out.new ≡ read_output gtm table.now (readings (alpha ∷ eta ∷ [])) out.old }
 {
     gtm::read(table, [alpha, eta], out)
 }
@@ -118,8 +118,8 @@ pub extern "C" fn clochecloak_gtm_move(
     shift: i64,
     out: &mut [i64],
 ) -> u64
-    ensures number { result ≡ moveNumber gtm table.now variable shift out.old }
-    ensures output { out.new ≡ moveOutput gtm table.now variable shift out.old }
+    ensures number { result ≡ move_number gtm table.now variable shift out.old }
+    ensures output { out.new ≡ move_output gtm table.now variable shift out.old }
 {
     gtm::move_datum(table, variable, shift, out)
 }

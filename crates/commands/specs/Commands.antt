@@ -1,7 +1,7 @@
 -- What a line of a script asks for.
 use Rattle.std.specs.Prelude.{Bool, true, false, cond, not, ◌&&◌, List, [], ◌∷◌, ℕ, suc, eqb, ltb, length, get_or, drop}
-use Rattle.words.specs.Words.{words, wordAt, same}
-use Rattle.numbers.specs.Numbers.{magnitude, naturalAt, signedAt, bits_at}
+use Rattle.words.specs.Words.{words, word_at, same}
+use Rattle.numbers.specs.Numbers.{magnitude, natural_at, signed_at, bits_at}
 use Rattle.numbers.specs.declared.Kind.{Kind}
 use Rattle.numbers.specs.declared.Kind.TheVariants.{Natural, Signed, Bits}
 use Rattle.words.specs.Text.{text}
@@ -45,8 +45,8 @@ named =
     ∷ N.Sum
     ∷ []
 
-abbrev pub nameCount : ℕ
-nameCount = length named
+abbrev pub name_count : ℕ
+name_count = length named
 
 abbrev pub name_at : ℕ → Name
 name_at p = get_or named p N.Other
@@ -67,39 +67,39 @@ fit (w ∷ ws) (b ∷ bs) = (magnitude (kind_of b) w).said && fit ws bs
 
 -- ════ what is asked, where they fit
 abbrev pub publish : Model → List ℕ → Command
-publish m l = C.Operation (O.Publish m (naturalAt l 1))
+publish m l = C.Operation (O.Publish m (natural_at l 1))
 
-abbrev pub moveZero : Model → List ℕ → Command
-moveZero m l = C.Operation (O.Move m (naturalAt l 1) (naturalAt l 2) (signedAt l 3) (naturalAt l 4))
+abbrev pub move_zero : Model → List ℕ → Command
+move_zero m l = C.Operation (O.Move m (natural_at l 1) (natural_at l 2) (signed_at l 3) (natural_at l 4))
 
 abbrev pub read : State → List ℕ → Command
-read s l = C.Operation (O.Read (naturalAt l 1) (naturalAt l 2) s)
+read s l = C.Operation (O.Read (natural_at l 1) (natural_at l 2) s)
 
-abbrev pub cumulusState : List ℕ → State
-cumulusState l = S.Cumulus (signedAt l 3) (signedAt l 4) (signedAt l 5) (signedAt l 6) (signedAt l 7)
+abbrev pub cumulus_state : List ℕ → State
+cumulus_state l = S.Cumulus (signed_at l 3) (signed_at l 4) (signed_at l 5) (signed_at l 6) (signed_at l 7)
 
-abbrev pub gtmState : List ℕ → State
-gtmState l = S.Gtm (signedAt l 3) (signedAt l 4)
+abbrev pub gtm_state : List ℕ → State
+gtm_state l = S.Gtm (signed_at l 3) (signed_at l 4)
 
 abbrev pub asked : Name → List ℕ → Command
 asked N.Publish l = publish Cumulus l
-asked N.Move l = moveZero Cumulus l
-asked N.Read l = read (cumulusState l) l
+asked N.Move l = move_zero Cumulus l
+asked N.Read l = read (cumulus_state l) l
 asked N.Floats l =
-    C.Operation (O.Floats (naturalAt l 1) (bits_at l 2) (bits_at l 3) (bits_at l 4) (bits_at l 5) (bits_at l 6))
+    C.Operation (O.Floats (natural_at l 1) (bits_at l 2) (bits_at l 3) (bits_at l 4) (bits_at l 5) (bits_at l 6))
 asked N.Microradians l =
-    C.Operation (O.Microradians (naturalAt l 1) (signedAt l 2) (signedAt l 3) (signedAt l 4) (signedAt l 5) (signedAt l 6))
-asked N.Many l = C.Operation (O.Many (naturalAt l 1) (naturalAt l 2) (naturalAt l 3) (naturalAt l 4))
+    C.Operation (O.Microradians (natural_at l 1) (signed_at l 2) (signed_at l 3) (signed_at l 4) (signed_at l 5) (signed_at l 6))
+asked N.Many l = C.Operation (O.Many (natural_at l 1) (natural_at l 2) (natural_at l 3) (natural_at l 4))
 asked N.GtmPublish l = publish Gtm l
-asked N.GtmMove l = moveZero Gtm l
-asked N.GtmRead l = read (gtmState l) l
-asked N.Length l = C.Keeping (K.Length (naturalAt l 1) (naturalAt l 2))
-asked N.Set l = C.Keeping (K.Set (naturalAt l 1) (naturalAt l 2) (signedAt l 3))
+asked N.GtmMove l = move_zero Gtm l
+asked N.GtmRead l = read (gtm_state l) l
+asked N.Length l = C.Keeping (K.Length (natural_at l 1) (natural_at l 2))
+asked N.Set l = C.Keeping (K.Set (natural_at l 1) (natural_at l 2) (signed_at l 3))
 asked N.Fill l =
-    C.Keeping (K.Fill (naturalAt l 1) (naturalAt l 2) (naturalAt l 3) (naturalAt l 4) (naturalAt l 5))
-asked N.Copy l = C.Keeping (K.Copy (naturalAt l 1) (naturalAt l 2))
-asked N.Show l = C.Keeping (K.Show (naturalAt l 1) (naturalAt l 2) (naturalAt l 3))
-asked N.Sum l = C.Keeping (K.Sum (naturalAt l 1))
+    C.Keeping (K.Fill (natural_at l 1) (natural_at l 2) (natural_at l 3) (natural_at l 4) (natural_at l 5))
+asked N.Copy l = C.Keeping (K.Copy (natural_at l 1) (natural_at l 2))
+asked N.Show l = C.Keeping (K.Show (natural_at l 1) (natural_at l 2) (natural_at l 3))
+asked N.Sum l = C.Keeping (K.Sum (natural_at l 1))
 asked N.Other l = C.Misused N.Other
 
 -- ════ the line: blank, a comment where the first word starts with `#`, or a command by its first word
@@ -107,14 +107,14 @@ abbrev pub starts_with : ℕ → List ℕ → Bool
 starts_with b [] = false
 starts_with b (c ∷ cs) = eqb c b
 
-abbrev pub placeOf : List ℕ → ℕ
-placeOf line = place (wordAt line 0) (words names)
+abbrev pub place_of : List ℕ → ℕ
+place_of line = place (word_at line 0) (words names)
 
 abbrev pub fits : List ℕ → ℕ → Bool
-fits line p = fit (drop 1 (words line)) (wordAt kinds p)
+fits line p = fit (drop 1 (words line)) (word_at kinds p)
 
 abbrev pub command : List ℕ → Command
 command line =
     cond (not (ltb 0 (length (words line)))) C.Blank
-    (cond (starts_with 35 (wordAt line 0)) C.Comment
-    (cond (fits line (placeOf line)) (asked (name_at (placeOf line)) line) (C.Misused (name_at (placeOf line)))))
+    (cond (starts_with 35 (word_at line 0)) C.Comment
+    (cond (fits line (place_of line)) (asked (name_at (place_of line)) line) (C.Misused (name_at (place_of line)))))

@@ -1,8 +1,8 @@
 // What a line of a script asks for: a command and its numbers.
 ghost use Rattle.std.specs.Prelude.{◌≡◌, ◌≤◌, ◌<◌, length, drop};
 ghost use Rattle.std.proofs.Math.Seq.{slice};
-ghost use Rattle.words.specs.Words.{words, wordAt};
-ghost use Rattle.commands.specs.Commands.{nameCount, place, placeOf, name_at, kind_of, fit, fits, publish, moveZero, read, cumulusState, gtmState, asked, starts_with, command};
+ghost use Rattle.words.specs.Words.{words, word_at};
+ghost use Rattle.commands.specs.Commands.{name_count, place, place_of, name_at, kind_of, fit, fits, publish, move_zero, read, cumulus_state, gtm_state, asked, starts_with, command};
 
 use layout::Model;
 use numbers::{Kind, bits_at, is_number, natural_at, signed_at};
@@ -135,8 +135,8 @@ const NAMES: usize = 15;
 
 // The place of the first word of a line among names.
 fn place_in(line: &[u8], names: &[u8]) -> usize
-    requires { length (words names.now) ≡ nameCount }
-    ensures { result ≡ place (wordAt line.now 0) (words names.now) }
+    requires { length (words names.now) ≡ name_count }
+    ensures { result ≡ place (word_at line.now 0) (words names.now) }
 {
     let mut k: usize = 0;
     while k < NAMES {
@@ -149,7 +149,7 @@ fn place_in(line: &[u8], names: &[u8]) -> usize
 }
 
 fn place_of(line: &[u8]) -> usize
-    ensures { result ≡ placeOf line.now }
+    ensures { result ≡ place_of line.now }
 {
     place_in(
         line,
@@ -186,7 +186,7 @@ fn fit(line: &[u8], kinds: &[u8], mut at: usize, end: usize) -> bool
 }
 
 fn fits_in(line: &[u8], kinds: &[u8], place: usize) -> bool
-    ensures { result ≡ fit (drop 1 (words line.now)) (wordAt kinds.now place) }
+    ensures { result ≡ fit (drop 1 (words line.now)) (word_at kinds.now place) }
 {
     let word = word_at(kinds, place);
     fit(line, kinds, word.start, word.end)
@@ -239,7 +239,7 @@ fn publish(line: &[u8], model: Model) -> Command
 }
 
 fn move_zero(line: &[u8], model: Model) -> Command
-    ensures { result ≡ moveZero model line.now }
+    ensures { result ≡ move_zero model line.now }
 {
     Command::Operation {
         operation: Operation::Move {
@@ -265,7 +265,7 @@ fn read(line: &[u8], state: State) -> Command
 }
 
 fn cumulus_state(line: &[u8]) -> State
-    ensures { result ≡ cumulusState line.now }
+    ensures { result ≡ cumulus_state line.now }
 {
     State::Cumulus {
         alpha: signed_at(line, 3),
@@ -277,7 +277,7 @@ fn cumulus_state(line: &[u8]) -> State
 }
 
 fn gtm_state(line: &[u8]) -> State
-    ensures { result ≡ gtmState line.now }
+    ensures { result ≡ gtm_state line.now }
 {
     State::Gtm {
         alpha: signed_at(line, 3),
@@ -425,7 +425,7 @@ fn asked(line: &[u8], name: Name) -> Command
 // Whether the first word, which is there, starts with `#`.
 fn is_comment(line: &[u8]) -> bool
     requires { 0 < length (words line.now) }
-    ensures { result ≡ starts_with 35 (wordAt line.now 0) }
+    ensures { result ≡ starts_with 35 (word_at line.now 0) }
 {
     let start = word_at(line, 0).start;
     line[start] == b'#'

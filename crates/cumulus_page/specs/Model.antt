@@ -3,7 +3,7 @@ use Rattle.std.specs.Prelude.{cond, List, [], ◌∷◌, ℕ, ℤ, pos, ◌+ℤ�
 use Rattle.std.specs.Int.Signed.{le_z}
 use Rattle.layout.specs.Shape.{cumulus}
 use Rattle.printed.specs.Notation.{Polynomial, ◌⊕◌}
-use Rattle.printed.specs.Values.{Angles, scaleIn, at}
+use Rattle.printed.specs.Values.{Angles, scale_in, at}
 use Rattle.cumulus_page.specs.Printed.{C-Xα-pre, C-Yα-pre, C-Zα-pre, C-lα-pre, C-mα-pre, C-nα-pre, C-Xη-pre, C-Yη-pre, C-Zη-pre, C-lη-pre, C-mη-pre, C-nη-pre, C-Xα-post, C-Yα-post, C-Zα-post, C-lα-post, C-mα-post, C-nα-post, C-Xη-post, C-Yη-post, C-Zη-post, C-lη-post, C-mη-post, C-nη-post, C-Xξ, C-Yξ, C-Zξ, C-lξ, C-mξ, C-nξ, C-Xζ, C-Yζ, C-Zζ, C-lζ, C-mζ, C-nζ}
 
 -- ════ the six coefficients
@@ -37,8 +37,8 @@ abbrev pub coefficients : List Coefficient
 coefficients = C-X ∷ C-Y ∷ C-Z ∷ C-l ∷ C-m ∷ C-n ∷ []
 
 -- that of a block; of any block past the fifth it is the last
-abbrev pub coefficientAt : ℕ → Coefficient
-coefficientAt b = get_or coefficients b C-n
+abbrev pub coefficient_at : ℕ → Coefficient
+coefficient_at b = get_or coefficients b C-n
 
 -- its polynomials by the groups of a block: low and high in α and η, then in β and ξ and in β and ζ
 abbrev pub parts : Coefficient → List Polynomial
@@ -62,16 +62,16 @@ module _ (A : Angles) where
   post C x = at cumulus A C.α-post x +ℤ at cumulus A C.ξ x +ℤ at cumulus A C.η-post x +ℤ at cumulus A C.ζ x
 
   -- (1)
-  abbrev pub valueIn : Coefficient → (ℕ → ℤ) → ℤ
-  valueIn C x = cond (le_z (x 0) (pos A.cut)) (pre C x) (post C x)
+  abbrev pub value_in : Coefficient → (ℕ → ℤ) → ℤ
+  value_in C x = cond (le_z (x 0) (pos A.cut)) (pre C x) (post C x)
 
 -- at whole milliradians, in units of 10⁻¹⁷
 abbrev pub scale : ℕ → ℕ
-scale = scaleIn milliradians
+scale = scale_in milliradians
 
-abbrev pub modelValue : Coefficient → (ℕ → ℤ) → ℤ
-modelValue = valueIn milliradians
+abbrev pub model_value : Coefficient → (ℕ → ℤ) → ℤ
+model_value = value_in milliradians
 
 -- at whole microradians, in units of 10⁻²⁹
-abbrev pub fineValue : Coefficient → (ℕ → ℤ) → ℤ
-fineValue = valueIn microradians
+abbrev pub fine_value : Coefficient → (ℕ → ℤ) → ℤ
+fine_value = value_in microradians

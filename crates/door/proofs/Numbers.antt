@@ -15,134 +15,134 @@ use lib.Dec.{eqb, leb, ltb}
 use lib.IntN.{ℤ}
 use lib.ListN.{length}
 use lib.Ieee.{Float}
-use Rattle.layout.specs.Shape.{tableLength, cumulus}
+use Rattle.layout.specs.Shape.{table_length, cumulus}
 use Rattle.layout.specs.Limits.{good}
 use Rattle.layout.specs.Sound.{light}
-use Rattle.layout.specs.Refusals.{Refusal, ◌when◌, first, unlessRefused, wrongTable, badLimits, tooHeavy, outside}
+use Rattle.layout.specs.Refusals.{Refusal, ◌when◌, first, unless_refused, wrong_table, bad_limits, too_heavy, outside}
 use Rattle.laws.proofs.Refused.{first-skip}
 use Rattle.limits.proofs.Firsts.{first_past, first-none, first-at}
-use Rattle.tables.specs.Ready.{tableRefusals, tableNumber}
+use Rattle.tables.specs.Ready.{table_refusals, table_number}
 use Rattle.tables.proofs.Steps.{first-apart}
 use Rattle.rounding.specs.declared.Step.{Step}
 use Rattle.rounding.specs.declared.Step.TheVariants.{Whole, NotFinite, Outside}
-use Rattle.door.specs.Steps.{positiveZero, notFinite, number_of, handedBack, isNotFinite, isOutside}
-use Rattle.door.specs.Door.{roundedAll, stepAt, notFinites, outsides, doorNumber, forOutside, readingFor, doorReading, truePiece, float_at, doorValue, answerWith, doorAnswer, refusedWith}
+use Rattle.door.specs.Steps.{positive_zero, not_finite, number_of, handed_back, is_not_finite, is_outside}
+use Rattle.door.specs.Door.{rounded_all, step_at, not_finites, outsides, door_number, for_outside, reading_for, door_reading, true_piece, float_at, door_value, answer_with, door_answer, refused_with}
 use Rattle.door.proofs.Firsts.{Found, none, at, found}
 
 -- ---- the refusals of steps
-pub named-not-finite : (i : ℕ) (r : Step) → isNotFinite r ≡ true → number_of cumulus i r ≡ notFinite cumulus i
+pub named-not-finite : (i : ℕ) (r : Step) → is_not_finite r ≡ true → number_of cumulus i r ≡ not_finite cumulus i
 named-not-finite i (Whole z) e = absurd (true≢false (sym e))
 named-not-finite i NotFinite e = refl
 named-not-finite i (Outside x) e = absurd (true≢false (sym e))
 
-pub named-outside : (i : ℕ) (r : Step) → isOutside r ≡ true → number_of cumulus i r ≡ outside cumulus i
+pub named-outside : (i : ℕ) (r : Step) → is_outside r ≡ true → number_of cumulus i r ≡ outside cumulus i
 named-outside i (Whole z) e = absurd (true≢false (sym e))
 named-outside i NotFinite e = absurd (true≢false (sym e))
 named-outside i (Outside x) e = refl
 
 module _ (s : ℕ → Step) where
-  abbrev pub refusedNotFinite : ℕ → Refusal
-  refusedNotFinite i = number_of cumulus i (s i) when isNotFinite (s i)
+  abbrev pub refused_not_finite : ℕ → Refusal
+  refused_not_finite i = number_of cumulus i (s i) when is_not_finite (s i)
 
-  abbrev pub refusedOutside : ℕ → Refusal
-  refusedOutside i = number_of cumulus i (s i) when isOutside (s i)
+  abbrev pub refused_outside : ℕ → Refusal
+  refused_outside i = number_of cumulus i (s i) when is_outside (s i)
 
   module _ (n : ℕ) where
-    pub not-finite-number : (first (notFinites cumulus n s) ≡ 0 → ⊥) → notFinite cumulus 0 ≤ first (notFinites cumulus n s)
-    not-finite-number h = go (found refusedNotFinite n)
+    pub not-finite-number : (first (not_finites cumulus n s) ≡ 0 → ⊥) → not_finite cumulus 0 ≤ first (not_finites cumulus n s)
+    not-finite-number h = go (found refused_not_finite n)
       where
-        go : Found refusedNotFinite n → notFinite cumulus 0 ≤ first (notFinites cumulus n s)
-        go (none all) = absurd (h (first-none refusedNotFinite n all))
-        go (at k b before one) = omega (arith, first-at refusedNotFinite k before one n b, named-not-finite k (s k) one)
+        go : Found refused_not_finite n → not_finite cumulus 0 ≤ first (not_finites cumulus n s)
+        go (none all) = absurd (h (first-none refused_not_finite n all))
+        go (at k b before one) = omega (arith, first-at refused_not_finite k before one n b, named-not-finite k (s k) one)
 
-    pub none-not-finite : first (notFinites cumulus n s) ≡ 0 → (i : ℕ) → i < n → isNotFinite (s i) ≡ false
-    none-not-finite e = go (found refusedNotFinite n)
+    pub none-not-finite : first (not_finites cumulus n s) ≡ 0 → (i : ℕ) → i < n → is_not_finite (s i) ≡ false
+    none-not-finite e = go (found refused_not_finite n)
       where
-        go : Found refusedNotFinite n → (i : ℕ) → i < n → isNotFinite (s i) ≡ false
+        go : Found refused_not_finite n → (i : ℕ) → i < n → is_not_finite (s i) ≡ false
         go (none all) = all
-        go (at k b before one) = absurd (omega (arith, first-at refusedNotFinite k before one n b, named-not-finite k (s k) one))
+        go (at k b before one) = absurd (omega (arith, first-at refused_not_finite k before one n b, named-not-finite k (s k) one))
 
-    pub none-outside : first (outsides cumulus n s) ≡ 0 → (i : ℕ) → i < n → isOutside (s i) ≡ false
-    none-outside e = go (found refusedOutside n)
+    pub none-outside : first (outsides cumulus n s) ≡ 0 → (i : ℕ) → i < n → is_outside (s i) ≡ false
+    none-outside e = go (found refused_outside n)
       where
-        go : Found refusedOutside n → (i : ℕ) → i < n → isOutside (s i) ≡ false
+        go : Found refused_outside n → (i : ℕ) → i < n → is_outside (s i) ≡ false
         go (none all) = all
-        go (at k b before one) = absurd (omega (arith, first-at refusedOutside k before one n b, named-outside k (s k) one))
+        go (at k b before one) = absurd (omega (arith, first-at refused_outside k before one n b, named-outside k (s k) one))
 
-    pub past-finite : first (notFinites cumulus n s) ≡ 0 → first (notFinites cumulus n s ++ outsides cumulus n s) ≡ first (outsides cumulus n s)
-    past-finite e = first_past refusedNotFinite n (none-not-finite e) (outsides cumulus n s)
+    pub past-finite : first (not_finites cumulus n s) ≡ 0 → first (not_finites cumulus n s ++ outsides cumulus n s) ≡ first (outsides cumulus n s)
+    past-finite e = first_past refused_not_finite n (none-not-finite e) (outsides cumulus n s)
 
   -- ---- the reading handed back
   shut : (b : Bool) → (b && false) ≡ false
   shut true = refl
   shut false = refl
 
-  with-test : (n : ℕ) {b : Bool} → forOutside cumulus n ≡ b → readingFor cumulus s n ≡ cond b (handedBack (s (n - outside cumulus 0))) positiveZero
-  with-test n e = ap (λ b. cond b (handedBack (s (n - outside cumulus 0))) positiveZero) e
+  with-test : (n : ℕ) {b : Bool} → for_outside cumulus n ≡ b → reading_for cumulus s n ≡ cond b (handed_back (s (n - outside cumulus 0))) positive_zero
+  with-test n e = ap (λ b. cond b (handed_back (s (n - outside cumulus 0))) positive_zero) e
 
-  pub back_below : (n : ℕ) → n < outside cumulus 0 → readingFor cumulus s n ≡ positiveZero
+  pub back_below : (n : ℕ) → n < outside cumulus 0 → reading_for cumulus s n ≡ positive_zero
   back_below n h = with-test n (ap (λ b. b && ltb n (outside cumulus cumulus.variables)) (lt-leb (outside cumulus 0) n h))
 
-  pub back_above : (n : ℕ) → outside cumulus cumulus.variables ≤ n → readingFor cumulus s n ≡ positiveZero
+  pub back_above : (n : ℕ) → outside cumulus cumulus.variables ≤ n → reading_for cumulus s n ≡ positive_zero
   back_above n h = with-test n (ap (λ b. leb (outside cumulus 0) n && b) (le-ltb n (outside cumulus cumulus.variables) h) ∙ shut (leb (outside cumulus 0) n))
 
-  pub back-given : (k : ℕ) → k < cumulus.variables → readingFor cumulus s (outside cumulus k) ≡ handedBack (s k)
+  pub back-given : (k : ℕ) → k < cumulus.variables → reading_for cumulus s (outside cumulus k) ≡ handed_back (s k)
   back-given k h =
       let e : outside cumulus k - outside cumulus 0 ≡ k = omega arith in
-      with-test (outside cumulus k) (ap₂ ◌&&◌ (le-leb (outside cumulus 0) (outside cumulus k) (omega arith)) (lt-ltb (outside cumulus k) (outside cumulus cumulus.variables) (omega arith))) ∙ ap (λ j. handedBack (s j)) e
+      with-test (outside cumulus k) (ap₂ ◌&&◌ (le-leb (outside cumulus 0) (outside cumulus k) (omega arith)) (lt-ltb (outside cumulus k) (outside cumulus cumulus.variables) (omega arith))) ∙ ap (λ j. handed_back (s j)) e
 
 -- it is that of one of the five variables
-pub back-agreed : (s r : ℕ → Step) → ((i : ℕ) → i < cumulus.variables → s i ≡ r i) → (n : ℕ) → readingFor cumulus s n ≡ readingFor cumulus r n
+pub back-agreed : (s r : ℕ → Step) → ((i : ℕ) → i < cumulus.variables → s i ≡ r i) → (n : ℕ) → reading_for cumulus s n ≡ reading_for cumulus r n
 back-agreed s r h n = go (dec_lt n (outside cumulus 0)) (dec_lt n (outside cumulus cumulus.variables))
   where
-    go : Dec (n < outside cumulus 0) → Dec (n < outside cumulus cumulus.variables) → readingFor cumulus s n ≡ readingFor cumulus r n
+    go : Dec (n < outside cumulus 0) → Dec (n < outside cumulus cumulus.variables) → reading_for cumulus s n ≡ reading_for cumulus r n
     go (yes b) e = back_below s n b ∙ sym (back_below r n b)
     go (no a) (yes b) =
         let q : n ≡ outside cumulus (n - outside cumulus 0) = omega arith in
-        ap (readingFor cumulus s) q ∙ back-given s (n - outside cumulus 0) (omega arith) ∙ ap handedBack (h (n - outside cumulus 0) (omega arith)) ∙ sym (back-given r (n - outside cumulus 0) (omega arith)) ∙ ap (readingFor cumulus r) (sym q)
+        ap (reading_for cumulus s) q ∙ back-given s (n - outside cumulus 0) (omega arith) ∙ ap handed_back (h (n - outside cumulus 0) (omega arith)) ∙ sym (back-given r (n - outside cumulus 0) (omega arith)) ∙ ap (reading_for cumulus r) (sym q)
     go (no a) (no b) = back_above s n (omega arith) ∙ sym (back_above r n (omega arith))
 
 -- ---- the number
-small : (w g l : Bool) → first ((wrongTable when not w) ∷ (badLimits when not g) ∷ (tooHeavy when not l) ∷ []) < outside cumulus 0
+small : (w g l : Bool) → first ((wrong_table when not w) ∷ (bad_limits when not g) ∷ (too_heavy when not l) ∷ []) < outside cumulus 0
 unfolding first
 small false g l = omega arith
 small true false l = omega arith
 small true true false = omega arith
 small true true true = omega arith
 
-pub table-small : (t : List ℤ) → tableNumber cumulus t < outside cumulus 0
-table-small t = small (eqb (length t) (tableLength cumulus)) (good cumulus t) (light cumulus t)
+pub table-small : (t : List ℤ) → table_number cumulus t < outside cumulus 0
+table-small t = small (eqb (length t) (table_length cumulus)) (good cumulus t) (light cumulus t)
 
 module _ (t : List ℤ) (x : ℕ → Float) where
-  pub door-refused : (n : ℕ) → n ≡ tableNumber cumulus t → (n ≡ 0 → ⊥) → doorNumber cumulus t x ≡ n
-  unfolding doorNumber
-  door-refused n e h = first-apart (tableRefusals cumulus t) (notFinites cumulus cumulus.variables (stepAt cumulus t x) ++ outsides cumulus cumulus.variables (stepAt cumulus t x)) (λ z. h (e ∙ z)) ∙ sym e
+  pub door-refused : (n : ℕ) → n ≡ table_number cumulus t → (n ≡ 0 → ⊥) → door_number cumulus t x ≡ n
+  unfolding door_number
+  door-refused n e h = first-apart (table_refusals cumulus t) (not_finites cumulus cumulus.variables (step_at cumulus t x) ++ outsides cumulus cumulus.variables (step_at cumulus t x)) (λ z. h (e ∙ z)) ∙ sym e
 
-  pub door-sound : length t ≡ tableLength cumulus → (good cumulus t ≡ true) × (light cumulus t ≡ true)
-      → doorNumber cumulus t x ≡ first (notFinites cumulus cumulus.variables (stepAt cumulus t x) ++ outsides cumulus cumulus.variables (stepAt cumulus t x))
-  unfolding doorNumber
-  door-sound a g = first-skip wrongTable _ (eq-eqb (length t) (tableLength cumulus) a) ∙ first-skip badLimits _ g.0 ∙ first-skip tooHeavy _ g.1
+  pub door-sound : length t ≡ table_length cumulus → (good cumulus t ≡ true) × (light cumulus t ≡ true)
+      → door_number cumulus t x ≡ first (not_finites cumulus cumulus.variables (step_at cumulus t x) ++ outsides cumulus cumulus.variables (step_at cumulus t x))
+  unfolding door_number
+  door-sound a g = first-skip wrong_table _ (eq-eqb (length t) (table_length cumulus) a) ∙ first-skip bad_limits _ g.0 ∙ first-skip too_heavy _ g.1
 
   -- ---- the answer
   abbrev value : ℕ → Float
-  value b = float_at cumulus t (truePiece cumulus t (x 0)) (roundedAll x) b
+  value b = float_at cumulus t (true_piece cumulus t (x 0)) (rounded_all x) b
 
-  pub zero-refused : (n : ℕ) → doorNumber cumulus t x ≡ n → 0 < n → (b : ℕ) → doorValue cumulus t x b ≡ positiveZero
-  unfolding doorValue
-  zero-refused n e h b = ap (λ q. cond q (value b) positiveZero) (ne_eqb (doorNumber cumulus t x) 0 (λ z. omega arith))
+  pub zero-refused : (n : ℕ) → door_number cumulus t x ≡ n → 0 < n → (b : ℕ) → door_value cumulus t x b ≡ positive_zero
+  unfolding door_value
+  zero-refused n e h b = ap (λ q. cond q (value b) positive_zero) (ne_eqb (door_number cumulus t x) 0 (λ z. omega arith))
 
-  pub value-done : doorNumber cumulus t x ≡ 0 → (b : ℕ) → doorValue cumulus t x b ≡ value b
-  unfolding doorValue
-  value-done e b = ap (λ n. unlessRefused n (value b) positiveZero) e
+  pub value-done : door_number cumulus t x ≡ 0 → (b : ℕ) → door_value cumulus t x b ≡ value b
+  unfolding door_value
+  value-done e b = ap (λ n. unless_refused n (value b) positive_zero) e
 
-  pub reading-is : (n : ℕ) → doorNumber cumulus t x ≡ n → doorReading cumulus t x ≡ readingFor cumulus (stepAt cumulus t x) n
-  unfolding doorReading
-  reading-is n e = ap (readingFor cumulus (stepAt cumulus t x)) e
+  pub reading-is : (n : ℕ) → door_number cumulus t x ≡ n → door_reading cumulus t x ≡ reading_for cumulus (step_at cumulus t x) n
+  unfolding door_reading
+  reading-is n e = ap (reading_for cumulus (step_at cumulus t x)) e
 
-  pub refused-answer : (n : ℕ) (back : Float) → doorNumber cumulus t x ≡ n → 0 < n → readingFor cumulus (stepAt cumulus t x) n ≡ back → refusedWith n back ≡ doorAnswer t x
+  pub refused-answer : (n : ℕ) (back : Float) → door_number cumulus t x ≡ n → 0 < n → reading_for cumulus (step_at cumulus t x) n ≡ back → refused_with n back ≡ door_answer t x
   refused-answer n back e h r = λ i.
-      answerWith (sym e i) (sym (reading-is n e ∙ r) i) (λ b. sym (zero-refused n e h b) i)
+      answer_with (sym e i) (sym (reading-is n e ∙ r) i) (λ b. sym (zero-refused n e h b) i)
 
-  pub done-answer : doorNumber cumulus t x ≡ 0 → answerWith 0 positiveZero value ≡ doorAnswer t x
+  pub done-answer : door_number cumulus t x ≡ 0 → answer_with 0 positive_zero value ≡ door_answer t x
   done-answer e = λ i.
-      answerWith (sym e i) (sym (reading-is 0 e ∙ back_below (stepAt cumulus t x) 0 (omega arith)) i) (λ b. sym (value-done e b) i)
+      answer_with (sym e i) (sym (reading-is 0 e ∙ back_below (step_at cumulus t x) 0 (omega arith)) i) (λ b. sym (value-done e b) i)

@@ -24,38 +24,38 @@ use Rattle.rounding.specs.Reading.{whole_of, step_of}
 use Rattle.rounding.specs.declared.Step.{Step}
 use Rattle.rounding.specs.declared.Step.TheVariants.{Whole, Outside}
 use Rattle.rounding.proofs.Steps.{Stepped, is-not-finite, is-outside, is_whole, stepped}
-use Rattle.door.specs.Steps.{notFinite, handedBack, isNotFinite, isOutside}
-use Rattle.door.specs.Door.{notFinites, outsides}
+use Rattle.door.specs.Steps.{not_finite, handed_back, is_not_finite, is_outside}
+use Rattle.door.specs.Door.{not_finites, outsides}
 use Rattle.door.proofs.Firsts.{Found, none, at, found}
-use Rattle.door.proofs.Numbers.{refusedOutside, named-outside, not-finite-number, past-finite}
+use Rattle.door.proofs.Numbers.{refused_outside, named-outside, not-finite-number, past-finite}
 
 -- ---- one step
-chosen-finite : (b : Bool) (z : ℤ) (x : Float) → isNotFinite (cond b (Whole z) (Outside x)) ≡ false
+chosen-finite : (b : Bool) (z : ℤ) (x : Float) → is_not_finite (cond b (Whole z) (Outside x)) ≡ false
 chosen-finite true z x = refl
 chosen-finite false z x = refl
 
-chosen-outside : (b : Bool) (z : ℤ) (x : Float) → isOutside (cond b (Whole z) (Outside x)) ≡ not b
+chosen-outside : (b : Bool) (z : ℤ) (x : Float) → is_outside (cond b (Whole z) (Outside x)) ≡ not b
 chosen-outside true z x = refl
 chosen-outside false z x = refl
 
-pub not-finite-told : (x : Float) (lowest highest : ℤ) → isNotFinite (step_of x lowest highest) ≡ not (finite x)
+pub not-finite-told : (x : Float) (lowest highest : ℤ) → is_not_finite (step_of x lowest highest) ≡ not (finite x)
 unfolding step_of
 not-finite-told nan lowest highest = refl
 not-finite-told (inf s) lowest highest = refl
 not-finite-told (fin s m e) lowest highest = chosen-finite (le_z lowest (whole_of (fin s m e)) && le_z (whole_of (fin s m e)) highest) (whole_of (fin s m e)) (fin s m e)
 
-pub outside_told : (x : Float) (lowest highest : ℤ) → finite x ≡ true → isOutside (step_of x lowest highest) ≡ not (le_z lowest (whole_of x) && le_z (whole_of x) highest)
+pub outside_told : (x : Float) (lowest highest : ℤ) → finite x ≡ true → is_outside (step_of x lowest highest) ≡ not (le_z lowest (whole_of x) && le_z (whole_of x) highest)
 unfolding step_of
 outside_told nan lowest highest f = absurd (true≢false (sym f))
 outside_told (inf s) lowest highest f = absurd (true≢false (sym f))
 outside_told (fin s m e) lowest highest f = chosen-outside (le_z lowest (whole_of (fin s m e)) && le_z (whole_of (fin s m e)) highest) (whole_of (fin s m e)) (fin s m e)
 
-carried : (x : Float) (lowest highest : ℤ) (r : Step) → Stepped x lowest highest r → isOutside r ≡ true → r ≡ Outside x
+carried : (x : Float) (lowest highest : ℤ) (r : Step) → Stepped x lowest highest r → is_outside r ≡ true → r ≡ Outside x
 carried x lowest highest r (is-not-finite n) e = absurd (true≢false (sym e))
 carried x lowest highest r (is-outside f p) e = refl
 carried x lowest highest r (is_whole f l g) e = absurd (true≢false (sym e))
 
-pub outside-step : (x : Float) (lowest highest : ℤ) → isOutside (step_of x lowest highest) ≡ true → step_of x lowest highest ≡ Outside x
+pub outside-step : (x : Float) (lowest highest : ℤ) → is_outside (step_of x lowest highest) ≡ true → step_of x lowest highest ≡ Outside x
 outside-step x lowest highest = carried x lowest highest (step_of x lowest highest) (stepped x lowest highest)
 
 finite_number : (x : Float) → T (finite x) → is_nan x ≡ false
@@ -64,13 +64,13 @@ finite_number nan f = absurd f
 finite_number (inf s) f = absurd f
 finite_number (fin s m e) f = refl
 
-back-number : (x : Float) (lowest highest : ℤ) (r : Step) → Stepped x lowest highest r → is_nan (handedBack r) ≡ false
+back-number : (x : Float) (lowest highest : ℤ) (r : Step) → Stepped x lowest highest r → is_nan (handed_back r) ≡ false
 unfolding is_nan
 back-number x lowest highest r (is-not-finite n) = refl
 back-number x lowest highest r (is-outside f p) = finite_number x f
 back-number x lowest highest r (is_whole f l g) = refl
 
-pub number_step : (x : Float) (lowest highest : ℤ) → is_nan (handedBack (step_of x lowest highest)) ≡ false
+pub number_step : (x : Float) (lowest highest : ℤ) → is_nan (handed_back (step_of x lowest highest)) ≡ false
 number_step x lowest highest = back-number x lowest highest (step_of x lowest highest) (stepped x lowest highest)
 
 -- ---- all of them
@@ -83,24 +83,24 @@ first-same f g n h e = go (found f n)
     go (at k b before one) =
         first-at f k before one n b ∙ e k one ∙ sym (first-at g k (λ i m. sym (h i (omega arith)) ∙ before i m) (sym (h k b) ∙ one) n b)
 
-module _ (s : ℕ → Step) (n i : ℕ) (h : outside cumulus i < notFinite cumulus 0) (e : first (notFinites cumulus n s ++ outsides cumulus n s) ≡ outside cumulus i) where
-  all-finite : first (notFinites cumulus n s) ≡ 0
-  all-finite = go (dec_lt 0 (first (notFinites cumulus n s)))
+module _ (s : ℕ → Step) (n i : ℕ) (h : outside cumulus i < not_finite cumulus 0) (e : first (not_finites cumulus n s ++ outsides cumulus n s) ≡ outside cumulus i) where
+  all-finite : first (not_finites cumulus n s) ≡ 0
+  all-finite = go (dec_lt 0 (first (not_finites cumulus n s)))
     where
-      go : Dec (0 < first (notFinites cumulus n s)) → first (notFinites cumulus n s) ≡ 0
+      go : Dec (0 < first (not_finites cumulus n s)) → first (not_finites cumulus n s) ≡ 0
       go (no b) = omega arith
       go (yes b) =
-          let apart : first (notFinites cumulus n s) ≡ 0 → ⊥ = λ z. omega arith in
-          absurd (omega (arith, first-apart (notFinites cumulus n s) (outsides cumulus n s) apart, not-finite-number s n apart))
+          let apart : first (not_finites cumulus n s) ≡ 0 → ⊥ = λ z. omega arith in
+          absurd (omega (arith, first-apart (not_finites cumulus n s) (outsides cumulus n s) apart, not-finite-number s n apart))
 
-  pub outside-found : isOutside (s i) ≡ true
-  outside-found = go (found (refusedOutside s) n)
+  pub outside-found : is_outside (s i) ≡ true
+  outside-found = go (found (refused_outside s) n)
     where
       number : first (outsides cumulus n s) ≡ outside cumulus i
       number = sym (past-finite s n all-finite) ∙ e
 
-      go : Found (refusedOutside s) n → isOutside (s i) ≡ true
-      go (none all) = absurd (omega (arith, number, first-none (refusedOutside s) n all))
+      go : Found (refused_outside s) n → is_outside (s i) ≡ true
+      go (none all) = absurd (omega (arith, number, first-none (refused_outside s) n all))
       go (at k b before one) =
-          let q : k ≡ i = omega (arith, number, first-at (refusedOutside s) k before one n b, named-outside k (s k) one) in
-          subst (λ j. isOutside (s j) ≡ true) q one
+          let q : k ≡ i = omega (arith, number, first-at (refused_outside s) k before one n b, named-outside k (s k) one) in
+          subst (λ j. is_outside (s j) ≡ true) q one

@@ -14,13 +14,13 @@ use Rattle.layout.specs.Shape.{cumulus}
 use Rattle.layout.specs.Limits.{lowest, highest}
 use Rattle.layout.specs.Refusals.{first}
 use Rattle.layout.specs.Reading.{inside}
-use Rattle.laws.proofs.Tests.{&&-both, fact-leZ}
+use Rattle.laws.proofs.Tests.{&&-both, fact-le_z}
 use Rattle.rounding.specs.Reading.{whole_of}
 use Rattle.rounding.specs.declared.Step.{Step}
 use Rattle.rounding.specs.declared.Step.TheVariants.{Whole}
 use Rattle.rounding.proofs.Steps.{Stepped, is-not-finite, is-outside, is_whole, stepped}
-use Rattle.door.specs.Steps.{isNotFinite, isOutside}
-use Rattle.door.specs.Door.{roundedAll, stepAt, notFinites, outsides}
+use Rattle.door.specs.Steps.{is_not_finite, is_outside}
+use Rattle.door.specs.Door.{rounded_all, step_at, not_finites, outsides}
 use Rattle.door.proofs.Numbers.{none-not-finite, none-outside}
 
 pub record Rounded (x : Float) (lowest highest : ℤ) (r : Step) : Type 0 where
@@ -29,22 +29,22 @@ pub record Rounded (x : Float) (lowest highest : ℤ) (r : Step) : Type 0 where
   pub low : lowest ≤ℤ whole_of x
   pub high : whole_of x ≤ℤ highest
 
-pub whole-step : (x : Float) (lowest highest : ℤ) (r : Step) → Stepped x lowest highest r → isNotFinite r ≡ false → isOutside r ≡ false → Rounded x lowest highest r
+pub whole-step : (x : Float) (lowest highest : ℤ) (r : Step) → Stepped x lowest highest r → is_not_finite r ≡ false → is_outside r ≡ false → Rounded x lowest highest r
 whole-step x lowest highest r (is-not-finite n) a b = absurd (true≢false a)
 whole-step x lowest highest r (is-outside f p) a b = absurd (true≢false b)
 whole-step x lowest highest r (is_whole f l g) a b = record { finite = f; is = refl; low = l; high = g }
 
-module _ (t : List ℤ) (x : ℕ → Float) (finite : first (notFinites cumulus cumulus.variables (stepAt cumulus t x)) ≡ 0) (within : first (outsides cumulus cumulus.variables (stepAt cumulus t x)) ≡ 0) (i : ℕ) (h : i < cumulus.variables) where
-  rounded : Rounded (x i) (lowest cumulus t i) (highest cumulus t i) (stepAt cumulus t x i)
+module _ (t : List ℤ) (x : ℕ → Float) (finite : first (not_finites cumulus cumulus.variables (step_at cumulus t x)) ≡ 0) (within : first (outsides cumulus cumulus.variables (step_at cumulus t x)) ≡ 0) (i : ℕ) (h : i < cumulus.variables) where
+  rounded : Rounded (x i) (lowest cumulus t i) (highest cumulus t i) (step_at cumulus t x i)
   rounded =
-      whole-step (x i) (lowest cumulus t i) (highest cumulus t i) (stepAt cumulus t x i) (stepped (x i) (lowest cumulus t i) (highest cumulus t i)) (none-not-finite (stepAt cumulus t x) cumulus.variables finite i h)
-      (none-outside (stepAt cumulus t x) cumulus.variables within i h)
+      whole-step (x i) (lowest cumulus t i) (highest cumulus t i) (step_at cumulus t x i) (stepped (x i) (lowest cumulus t i) (highest cumulus t i)) (none-not-finite (step_at cumulus t x) cumulus.variables finite i h)
+      (none-outside (step_at cumulus t x) cumulus.variables within i h)
 
   pub step-finite : T (Scale.finite (x i))
   step-finite = rounded.finite
 
-  pub step-whole : stepAt cumulus t x i ≡ Whole (roundedAll x i)
+  pub step-whole : step_at cumulus t x i ≡ Whole (rounded_all x i)
   step-whole = rounded.is
 
-  pub rounded-inside : inside cumulus t (roundedAll x) i ≡ true
-  rounded-inside = &&-both (fact-leZ rounded.low) (fact-leZ rounded.high)
+  pub rounded-inside : inside cumulus t (rounded_all x) i ≡ true
+  rounded-inside = &&-both (fact-le_z rounded.low) (fact-le_z rounded.high)

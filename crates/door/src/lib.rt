@@ -4,16 +4,16 @@ ghost use Rattle.polynomials.specs.Sum.{listed};
 ghost use Rattle.polynomials.specs.Groups.{total};
 ghost use Rattle.layout.specs.declared.Model.TheVariants.{Cumulus};
 ghost use Rattle.layout.specs.Shape.{cumulus};
-ghost use Rattle.layout.specs.Limits.{fineCut, allInRange};
+ghost use Rattle.layout.specs.Limits.{fine_cut, all_in_range};
 ghost use Rattle.layout.specs.Blocks.{coefficient, piece as piece_of};
 ghost use Rattle.layout.specs.Refusals.{first};
 ghost use Rattle.layout.specs.Reading.{readings as wholes};
 ghost use Rattle.rounding.specs.Answer.{float_of};
 ghost use Rattle.rounding.specs.Ready.{Near};
-ghost use Rattle.thousandths.specs.Thousandths.{atMostThousandths};
+ghost use Rattle.thousandths.specs.Thousandths.{at_most_thousandths};
 ghost use Rattle.blocks.specs.Ready.{Valued};
-ghost use Rattle.door.specs.Steps.{positiveZero, wholeIn, stepsOf};
-ghost use Rattle.door.specs.Door.{floats, stepAt, notFinites, outsides, readingFor, answerWith, refusedWith, doorAnswer};
+ghost use Rattle.door.specs.Steps.{positive_zero, whole_in, steps_of};
+ghost use Rattle.door.specs.Door.{floats, step_at, not_finites, outsides, reading_for, answer_with, refused_with, door_answer};
 
 use layout::Model;
 use layout::cumulus_one::{BLOCKS, VARIABLES};
@@ -40,7 +40,7 @@ pub struct Answer {
 
 // A refusal, with the reading that it hands back.
 fn refused(number: u64, reading: f64) -> Answer
-    ensures { result ≡ refusedWith number reading }
+    ensures { result ≡ refused_with number reading }
 {
     Answer {
         number: number,
@@ -56,8 +56,8 @@ fn refused(number: u64, reading: f64) -> Answer
 
 // The step of each reading.
 fn steps_of(limits: Limits, readings: [f64; VARIABLES]) -> [Step; VARIABLES]
-    requires { (limits.model ≡ Cumulus) × (allInRange cumulus limits.numbers ≡ true) }
-    ensures { result ≡ listed cumulus.variables (stepAt cumulus limits.numbers (floats readings)) }
+    requires { (limits.model ≡ Cumulus) × (all_in_range cumulus limits.numbers ≡ true) }
+    ensures { result ≡ listed cumulus.variables (step_at cumulus limits.numbers (floats readings)) }
 {
     let mut steps = [Step::NotFinite; VARIABLES];
     let mut i: usize = 0;
@@ -71,7 +71,7 @@ fn steps_of(limits: Limits, readings: [f64; VARIABLES]) -> [Step; VARIABLES]
 
 // The refusal of the first reading that is not finite; 0 where all are finite.
 fn not_finite(steps: [Step; VARIABLES]) -> u64
-    ensures { result ≡ first (notFinites cumulus cumulus.variables (stepsOf steps)) }
+    ensures { result ≡ first (not_finites cumulus cumulus.variables (steps_of steps)) }
 {
     let mut i: usize = 0;
     while i < VARIABLES {
@@ -86,7 +86,7 @@ fn not_finite(steps: [Step; VARIABLES]) -> u64
 
 // The refusal of the first reading outside its limits, with the reading; number 0 where all are inside.
 fn outside(steps: [Step; VARIABLES]) -> Answer
-    ensures { result ≡ refusedWith (first (outsides cumulus cumulus.variables (stepsOf steps))) (readingFor cumulus (stepsOf steps) (first (outsides cumulus cumulus.variables (stepsOf steps)))) }
+    ensures { result ≡ refused_with (first (outsides cumulus cumulus.variables (steps_of steps))) (reading_for cumulus (steps_of steps) (first (outsides cumulus cumulus.variables (steps_of steps)))) }
 {
     let mut i: usize = 0;
     while i < VARIABLES {
@@ -101,7 +101,7 @@ fn outside(steps: [Step; VARIABLES]) -> Answer
 
 // The whole reading of a step that has one.
 fn whole_in(step: Step) -> i64
-    ensures { result ≡ wholeIn step }
+    ensures { result ≡ whole_in step }
 {
     match step {
         Step::Whole(z) => z,
@@ -112,7 +112,7 @@ fn whole_in(step: Step) -> i64
 
 // The whole readings.
 fn wholes_in(steps: [Step; VARIABLES]) -> [i64; VARIABLES]
-    ensures { result ≡ listed cumulus.variables (λ i. wholeIn (stepsOf steps i)) }
+    ensures { result ≡ listed cumulus.variables (λ i. whole_in (steps_of steps i)) }
 {
     let mut state: [i64; VARIABLES] = [0; VARIABLES];
     let mut i: usize = 0;
@@ -127,7 +127,7 @@ fn wholes_in(steps: [Step; VARIABLES]) -> [i64; VARIABLES]
 // The piece that a reading belongs to as it was given, before it is rounded.
 fn true_piece(limits: Limits, alpha: f64) -> usize
     requires { (limits.model ≡ Cumulus) × Near alpha }
-    ensures { result ≡ cond (atMostThousandths alpha (fineCut cumulus limits.numbers)) 0 1 }
+    ensures { result ≡ cond (at_most_thousandths alpha (fine_cut cumulus limits.numbers)) 0 1 }
 {
     if thousandths::at_most(alpha, limits.fine_cut()) {
         return LOW;
@@ -138,7 +138,7 @@ fn true_piece(limits: Limits, alpha: f64) -> usize
 // The six floats at whole readings, in the low piece (0) or the high one.
 fn answered(table: &[i64], piece: usize, state: [i64; VARIABLES]) -> Answer
     requires { (b : ℕ) → b < cumulus.blocks → Valued cumulus table.now b piece state }
-    ensures { result ≡ answerWith 0 positiveZero (λ b. float_of (total (coefficient cumulus table.now b (piece_of piece)) (wholes state))) }
+    ensures { result ≡ answer_with 0 positive_zero (λ b. float_of (total (coefficient cumulus table.now b (piece_of piece)) (wholes state))) }
 {
     let mut values: [i64; BLOCKS] = [0; BLOCKS];
     write_values(Model::Cumulus, table, piece, state, &mut values);
@@ -157,7 +157,7 @@ fn answered(table: &[i64], piece: usize, state: [i64; VARIABLES]) -> Answer
 // Reads the six coefficients of a table at a state of five floats in milliradians, each rounded to the nearest whole number
 // (half away from zero); or refuses, with six zeros. Alpha as given decides which piece is read at the rounded readings.
 pub fn read_floats(table: &[i64], readings: [f64; VARIABLES]) -> Answer
-    ensures { result ≡ doorAnswer table.now (floats readings) }
+    ensures { result ≡ door_answer table.now (floats readings) }
 {
     let unsound = refusal_of(Model::Cumulus, table);
     if unsound != DONE {

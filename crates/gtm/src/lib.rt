@@ -1,9 +1,9 @@
 // The published table of the GTM's longitudinal model.
 ghost use Rattle.std.specs.Prelude.{◌≡◌};
 ghost use Rattle.layout.specs.Shape.{gtm};
-ghost use Rattle.layout.specs.Publishing.{publishNumber, publishOutput};
-ghost use Rattle.layout.specs.Reading.{readings, readNumber, readOutput};
-ghost use Rattle.layout.specs.Moving.{moveNumber, moveOutput};
+ghost use Rattle.layout.specs.Publishing.{publish_number, publish_output};
+ghost use Rattle.layout.specs.Reading.{readings, read_number, read_output};
+ghost use Rattle.layout.specs.Moving.{move_number, move_output};
 ghost use Rattle.gtm_page.specs.Published.{published};
 
 use layout::Model;
@@ -89,8 +89,8 @@ const PUBLISHED: [i64; TABLE] = [
 
 // Writes the table to `out` and gives 0; 2 where `out` has another length, and `out` stays as it was.
 pub fn publish(out: &mut [i64]) -> u64
-    ensures number { result ≡ publishNumber published out.old }
-    ensures output { out.new ≡ publishOutput published out.old }
+    ensures number { result ≡ publish_number published out.old }
+    ensures output { out.new ≡ publish_output published out.old }
 {
     let table = PUBLISHED;
     tables::publishing::publish(&table, out)
@@ -98,8 +98,8 @@ pub fn publish(out: &mut [i64]) -> u64
 
 // Reads lift, drag and pitching moment of a table at a state of two whole milliradians, alpha and eta, into `out`, or refuses and leaves `out` as it was.
 pub fn read(table: &[i64], state: [i64; VARIABLES], out: &mut [i64]) -> u64
-    ensures number { result ≡ readNumber gtm table.now (readings state) out.old }
-    ensures output { out.new ≡ readOutput gtm table.now (readings state) out.old }
+    ensures number { result ≡ read_number gtm table.now (readings state) out.old }
+    ensures output { out.new ≡ read_output gtm table.now (readings state) out.old }
 {
     let refused = refusal_into(Model::Gtm, table, out.len());
     let alpha = state[0];
@@ -110,8 +110,8 @@ pub fn read(table: &[i64], state: [i64; VARIABLES], out: &mut [i64]) -> u64
 // Writes the table with the zero of one variable, alpha (0) or eta (1), moved by `shift` into `out`, or refuses and leaves `out` as it was. The moved
 // table answers at a reading less `shift` what this one answers at the reading.
 pub fn move_datum(table: &[i64], variable: usize, shift: i64, out: &mut [i64]) -> u64
-    ensures number { result ≡ moveNumber gtm table.now variable shift out.old }
-    ensures output { out.new ≡ moveOutput gtm table.now variable shift out.old }
+    ensures number { result ≡ move_number gtm table.now variable shift out.old }
+    ensures output { out.new ≡ move_output gtm table.now variable shift out.old }
 {
     moving::move_datum(Model::Gtm, table, variable, shift, out)
 }

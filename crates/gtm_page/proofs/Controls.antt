@@ -7,15 +7,15 @@ use lib.ListN.{get_or, take, drop, replicate}
 use Rattle.polynomials.specs.Sum.{sum, listed}
 use Rattle.polynomials.specs.Order.{powers, below}
 use Rattle.polynomials.specs.Binomial.{choose}
-use Rattle.polynomials.specs.Group.{number, term, evaluated, given, movedNumber, replaced}
-use Rattle.polynomials.specs.Groups.{total, totalWeight, movedGroup, longer}
-use Rattle.layout.specs.Shape.{kindsLength, blockStart, gtm, cumulus}
-use Rattle.layout.specs.Limits.{every, allInRange, good}
-use Rattle.layout.specs.Blocks.{low, high, groups, laidOut, chosen, coefficient}
-use Rattle.layout.specs.Sound.{reach, withinCap}
+use Rattle.polynomials.specs.Group.{number, term, evaluated, given, moved_number, replaced}
+use Rattle.polynomials.specs.Groups.{total, total_weight, moved_group, longer}
+use Rattle.layout.specs.Shape.{kinds_length, block_start, gtm, cumulus}
+use Rattle.layout.specs.Limits.{every, all_in_range, good}
+use Rattle.layout.specs.Blocks.{low, high, groups, laid_out, chosen, coefficient}
+use Rattle.layout.specs.Sound.{reach, within_cap}
 use Rattle.layout.specs.Refusals.{first}
-use Rattle.layout.specs.Reading.{readings, values, readNumber}
-use Rattle.layout.specs.Moving.{movedLimit, movedLimits, movedBlock, joined, movedTable, moveNumber}
+use Rattle.layout.specs.Reading.{readings, values, read_number}
+use Rattle.layout.specs.Moving.{moved_limit, moved_limits, moved_block, joined, moved_table, move_number}
 use Rattle.gtm_page.specs.Model.{milliradians}
 use Rattle.gtm_page.specs.Published.{published}
 
@@ -25,7 +25,7 @@ boundary = refl
 
 -- ════ the table
 limits-read : take 5 published ≡ neg_ℤ (pos 150) ∷ pos 290 ∷ pos 1000 ∷ neg_ℤ (pos 400) ∷ pos 400 ∷ []
-unfolding published laidOut listed powers below
+unfolding published laid_out listed powers below
 limits-read = refl
 
 -- lift for low angles of attack: (96) and (97) together, 5.234 + 0.003 before α and -30.060 + 0.051 before ααα
@@ -41,7 +41,7 @@ low-lift : take 10 (drop 5 published)
     ∷ neg_ℤ (pos 29_300_000)
     ∷ neg_ℤ (pos 47_900_000)
     ∷ []
-unfolding published laidOut listed powers below
+unfolding published laid_out listed powers below
 low-lift = refl
 
 -- the constants with which the groups begin, low and high of lift, drag and pitching moment
@@ -53,7 +53,7 @@ constants : map (λ k. get_or published k (pos 0)) (5 ∷ 15 ∷ 25 ∷ 35 ∷ 4
     ∷ pos 13_100_000_000_000_000
     ∷ pos 15_800_000_000_000_000
     ∷ []
-unfolding published laidOut listed powers below
+unfolding published laid_out listed powers below
 constants = refl
 
 -- ════ reads: lift, drag and pitching moment at alpha and eta, on both sides of the cut and at the ends among them
@@ -72,17 +72,17 @@ reads : map (λ x. values gtm published (readings x))
     ∷ (neg_ℤ (pos 39_990_012_500_000_000) ∷ pos 8_012_537_500_000_000 ∷ neg_ℤ (pos 25_396_887_500_000_000) ∷ [])
     ∷ (pos 29_984_814_223_400_000 ∷ pos 3_448_539_239_200_000 ∷ pos 13_845_650_308_100_000 ∷ [])
     ∷ []
-unfolding published laidOut sum listed powers below term evaluated total kindsLength groups chosen coefficient values pow one
+unfolding published laid_out sum listed powers below term evaluated total kinds_length groups chosen coefficient values pow one
 reads = refl
 
 -- the numbers given back with room for three
 unfoldable gives : List ℤ → List ℤ → ℕ
-unfolding published laidOut sum listed powers below term evaluated totalWeight kindsLength every allInRange good groups chosen coefficient withinCap first readNumber
-gives t x = readNumber gtm t (readings x) (replicate 3 (pos 0))
+unfolding published laid_out sum listed powers below term evaluated total_weight kinds_length every all_in_range good groups chosen coefficient within_cap first read_number
+gives t x = read_number gtm t (readings x) (replicate 3 (pos 0))
 
 -- alpha comes first and is refused by 11, eta by 14; a table of another aircraft's length by 1
 refusals : map (gives published) ((pos 1000 ∷ pos 400 ∷ []) ∷ (pos 1001 ∷ pos 401 ∷ []) ∷ (pos 0 ∷ pos 401 ∷ []) ∷ (neg_ℤ (pos 151) ∷ pos 0 ∷ []) ∷ (pos 0 ∷ neg_ℤ (pos 401) ∷ []) ∷ []) ≡ 0 ∷ 11 ∷ 14 ∷ 11 ∷ 14 ∷ []
-unfolding gives published laidOut listed powers below
+unfolding gives published laid_out listed powers below
 refusals = refl
 
 other_length : gives (replicate 311 (pos 0)) [] ∷ gives (replicate 64 (pos 0)) [] ∷ gives (replicate 66 (pos 0)) [] ∷ [] ≡ 1 ∷ 1 ∷ 1 ∷ []
@@ -90,33 +90,33 @@ unfolding gives
 other_length = refl
 
 -- ════ weights: lift, drag and pitching moment, low and high
-weights : map (λ p. listed 3 (λ b. totalWeight (coefficient gtm published b p) (reach gtm published p))) (low ∷ high ∷ [])
+weights : map (λ p. listed 3 (λ b. total_weight (coefficient gtm published b p) (reach gtm published p))) (low ∷ high ∷ [])
     ≡ (274_496_196_100_000_000 ∷ 49_150_607_500_000_000 ∷ 313_041_308_700_000_000 ∷ [])
     ∷ (808_117_600_000_000_000 ∷ 307_263_200_000_000_000 ∷ 680_266_400_000_000_000 ∷ [])
     ∷ []
-unfolding published laidOut sum listed powers below term evaluated totalWeight kindsLength groups chosen coefficient
+unfolding published laid_out sum listed powers below term evaluated total_weight kinds_length groups chosen coefficient
 weights = refl
 
 -- ════ moves
 -- the largest that are accepted, each followed by the next one, then out of range, and a variable that is none
-unfoldable moveGives : ℕ → ℤ → ℕ
-unfolding published laidOut sum listed powers below term evaluated totalWeight longer kindsLength every allInRange good groups chosen coefficient withinCap first movedLimit movedLimits moveNumber
-moveGives i s = moveNumber gtm published i s (replicate 65 (pos 0))
+unfoldable move_gives : ℕ → ℤ → ℕ
+unfolding published laid_out sum listed powers below term evaluated total_weight longer kinds_length every all_in_range good groups chosen coefficient within_cap first moved_limit moved_limits move_number
+move_gives i s = move_number gtm published i s (replicate 65 (pos 0))
 
-largest : map (moveGives 0) (pos 577 ∷ pos 578 ∷ neg_ℤ (pos 507) ∷ neg_ℤ (pos 508) ∷ neg_ℤ (pos 1000) ∷ neg_ℤ (pos 1001) ∷ []) ≡ 0 ∷ 7 ∷ 0 ∷ 7 ∷ 7 ∷ 6 ∷ []
-unfolding moveGives
+largest : map (move_gives 0) (pos 577 ∷ pos 578 ∷ neg_ℤ (pos 507) ∷ neg_ℤ (pos 508) ∷ neg_ℤ (pos 1000) ∷ neg_ℤ (pos 1001) ∷ []) ≡ 0 ∷ 7 ∷ 0 ∷ 7 ∷ 7 ∷ 6 ∷ []
+unfolding move_gives
 largest = refl
 
-largest-in-eta : map (moveGives 1) (pos 1533 ∷ pos 1534 ∷ neg_ℤ (pos 1533) ∷ neg_ℤ (pos 1534) ∷ []) ≡ 0 ∷ 7 ∷ 0 ∷ 7 ∷ []
-unfolding moveGives
+largest-in-eta : map (move_gives 1) (pos 1533 ∷ pos 1534 ∷ neg_ℤ (pos 1533) ∷ neg_ℤ (pos 1534) ∷ []) ≡ 0 ∷ 7 ∷ 0 ∷ 7 ∷ []
+unfolding move_gives
 largest-in-eta = refl
 
-no-third-variable : moveGives 2 (pos 0) ≡ 5
-unfolding moveGives
+no-third-variable : move_gives 2 (pos 0) ≡ 5
+unfolding move_gives
 no-third-variable = refl
 
 -- by 35 in alpha: the limits, and lift for low angles of attack
-moved : take 15 (movedTable gtm 0 (pos 35) published)
+moved : take 15 (moved_table gtm 0 (pos 35) published)
     ≡ neg_ℤ (pos 185) ∷ pos 255 ∷ pos 965 ∷ neg_ℤ (pos 400) ∷ pos 400
     ∷ pos 20_135_178_912_500_000
     ∷ pos 526_062_692_500_000
@@ -129,5 +129,5 @@ moved : take 15 (movedTable gtm 0 (pos 35) published)
     ∷ neg_ℤ (pos 29_300_000)
     ∷ neg_ℤ (pos 47_900_000)
     ∷ []
-unfolding published laidOut sum listed powers below choose number term evaluated given movedNumber replaced movedGroup kindsLength groups movedLimit movedLimits movedBlock joined movedTable pow one
+unfolding published laid_out sum listed powers below choose number term evaluated given moved_number replaced moved_group kinds_length groups moved_limit moved_limits moved_block joined moved_table pow one
 moved = refl

@@ -12,20 +12,20 @@ use lib.ListN.{length}
 use Rattle.polynomials.specs.Sum.{sum, listed}
 use Rattle.polynomials.specs.Order.{powers, below}
 use Rattle.polynomials.specs.Group.{term, evaluated}
-use Rattle.polynomials.specs.Groups.{totalWeight}
-use Rattle.layout.specs.Shape.{kindsLength, gtm}
-use Rattle.layout.specs.Limits.{every, allInRange, good}
-use Rattle.layout.specs.Blocks.{groups, laidOut, chosen, coefficient}
-use Rattle.layout.specs.Sound.{withinCap, SoundTable}
+use Rattle.polynomials.specs.Groups.{total_weight}
+use Rattle.layout.specs.Shape.{kinds_length, gtm}
+use Rattle.layout.specs.Limits.{every, all_in_range, good}
+use Rattle.layout.specs.Blocks.{groups, laid_out, chosen, coefficient}
+use Rattle.layout.specs.Sound.{within_cap, SoundTable}
 use Rattle.layout.specs.Refusals.{done}
-use Rattle.layout.specs.Reading.{inside, readNumber}
+use Rattle.layout.specs.Reading.{inside, read_number}
 use Rattle.laws.proofs.Accepted.{read-done-exactly}
 use Rattle.printed.proofs.Envelope.{between, within}
 use Rattle.gtm_page.specs.Published.{published}
 use Rattle.gtm_page.specs.Envelope.{Envelope}
 
 pub sound-table : SoundTable gtm published
-unfolding published laidOut listed sum powers below term evaluated totalWeight kindsLength every allInRange good groups chosen coefficient withinCap
+unfolding published laid_out listed sum powers below term evaluated total_weight kinds_length every all_in_range good groups chosen coefficient within_cap
 sound-table = record { long = refl; is-sound = refl }
 
 -- ════ the readings and their limits
@@ -40,5 +40,5 @@ module _ (x : ℕ → ℤ) where
   unfolding published
   to-envelope h = record { alpha = between (h 0 (omega arith)); eta = between (h 1 (omega arith)) }
 
-  pub read-inside : (out : List ℤ) → length out ≡ gtm.blocks → (readNumber gtm published x out ≡ done) ↔ Envelope x
+  pub read-inside : (out : List ℤ) → length out ≡ gtm.blocks → (read_number gtm published x out ≡ done) ↔ Envelope x
   read-inside out room = let e = read-done-exactly sound-table x out room in ((λ d. to-envelope (e.0 d)), λ h. e.1 (from-envelope h))

@@ -12,26 +12,26 @@ use lib.Signed.{le_z}
 use Rattle.polynomials.specs.Order.{below}
 use Rattle.polynomials.specs.Sum.{listed}
 use Rattle.layout.specs.declared.Model.TheVariants.{Gtm}
-use Rattle.layout.specs.Shape.{kindsLength, gtm}
-use Rattle.layout.specs.Blocks.{Piece, low, high, groups, laidOut, chosen, coefficient}
+use Rattle.layout.specs.Shape.{kinds_length, gtm}
+use Rattle.layout.specs.Blocks.{Piece, low, high, groups, laid_out, chosen, coefficient}
 use Rattle.layout.specs.Refusals.{done}
-use Rattle.layout.specs.Reading.{values, readNumber, readOutput}
+use Rattle.layout.specs.Reading.{values, read_number, read_output}
 use Rattle.layout.proofs.Fine.{well-formed, fine}
 use Rattle.laws.proofs.Refused.{read-given}
 use Rattle.printed.specs.Values.{at}
-use Rattle.printed.specs.Stored.{eachBelongs}
-use Rattle.printed.proofs.Answers.{at-⊕, held, printedIn, all_hold, values-printed}
-use Rattle.gtm_page.specs.Model.{Coefficient, coefficients, parts, milliradians, modelValue}
+use Rattle.printed.specs.Stored.{each_belongs}
+use Rattle.printed.proofs.Answers.{at-⊕, held, printed_in, all_hold, values-printed}
+use Rattle.gtm_page.specs.Model.{Coefficient, coefficients, parts, milliradians, model_value}
 use Rattle.gtm_page.specs.Published.{published}
 use Rattle.gtm_page.specs.Envelope.{Envelope}
 use Rattle.gtm_page.proofs.Envelope.{read-inside}
 
-pub own-variables : map (λ C. eachBelongs gtm (parts C)) coefficients ≡ replicate gtm.blocks (all_hold gtm)
+pub own-variables : map (λ C. each_belongs gtm (parts C)) coefficients ≡ replicate gtm.blocks (all_hold gtm)
 own-variables = refl
 
 -- the blocks hold the coefficients in their order
 blocks-held : (p : Piece) → listed gtm.blocks (λ b. coefficient gtm published b p) ≡ map (λ C. held gtm milliradians p (parts C)) coefficients
-unfolding published laidOut listed below kindsLength groups chosen coefficient
+unfolding published laid_out listed below kinds_length groups chosen coefficient
 blocks-held low = refl
 blocks-held high = refl
 
@@ -41,7 +41,7 @@ module _ (x : ℕ → ℤ) where
   equation low C = at gtm milliradians C.α-low x +ℤ at gtm milliradians C.η x
   equation high C = at gtm milliradians C.α-high x +ℤ at gtm milliradians C.η x
 
-  equation-says : (p : Piece) (C : Coefficient) → printedIn gtm milliradians x p (parts C) ≡ equation p C
+  equation-says : (p : Piece) (C : Coefficient) → printed_in gtm milliradians x p (parts C) ≡ equation p C
   equation-says low C = +ℤ_idr (at gtm milliradians _ x) ∙ at-⊕ gtm milliradians x C.α-low C.η
   equation-says high C = +ℤ_idl _ ∙ +ℤ_idr (at gtm milliradians _ x) ∙ at-⊕ gtm milliradians x C.α-high C.η
 
@@ -51,12 +51,12 @@ module _ (x : ℕ → ℤ) where
   in_both true = refl
   in_both false = refl
 
-  pub values-model : values gtm published x ≡ map (λ C. modelValue C x) coefficients
+  pub values-model : values gtm published x ≡ map (λ C. model_value C x) coefficients
   unfolding published
   values-model =
       values-printed gtm (well-formed Gtm) milliradians x (fine Gtm) parts equation (λ C. refl) equation-says coefficients published own-variables blocks-held
       ∙ in_both (le_z (x 0) (pos milliradians.cut))
 
   pub read-model : (out : List ℤ) → length out ≡ gtm.blocks → Envelope x
-      → (readNumber gtm published x out ≡ done) × (readOutput gtm published x out ≡ map (λ C. modelValue C x) coefficients)
+      → (read_number gtm published x out ≡ done) × (read_output gtm published x out ≡ map (λ C. model_value C x) coefficients)
   read-model out room h = let e = (read-inside x out room).1 h in (e, read-given gtm published x out e ∙ values-model)

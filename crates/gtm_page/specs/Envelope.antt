@@ -7,5 +7,5 @@ pub record Envelope (x : ℕ → ℤ) : Type 0 where
   pub eta : Inclusive (neg_ℤ (pos 400)) (pos 400) (x 1)
 
 -- for alpha and eta, the sizes up to which every move of the published table is accepted
-abbrev pub farthestMove : ℕ → ℕ
-farthestMove i = get_or (500 ∷ 1500 ∷ []) i 0
+abbrev pub farthest_move : ℕ → ℕ
+farthest_move i = get_or (500 ∷ 1500 ∷ []) i 0

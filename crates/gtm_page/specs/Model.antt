@@ -34,9 +34,9 @@ abbrev pub milliradians : Angles
 milliradians = record { radian = 1000; cut = 290 }
 
 -- the part in α: (96), (98), (100)
-abbrev pub alphaPart : Coefficient → (ℕ → ℤ) → ℤ
-alphaPart C x = cond (le_z (x 0) (pos milliradians.cut)) (at gtm milliradians C.α-low x) (at gtm milliradians C.α-high x)
+abbrev pub alpha_part : Coefficient → (ℕ → ℤ) → ℤ
+alpha_part C x = cond (le_z (x 0) (pos milliradians.cut)) (at gtm milliradians C.α-low x) (at gtm milliradians C.α-high x)
 
 -- and with it the part in α and η: (97), (99), (101)
-abbrev pub modelValue : Coefficient → (ℕ → ℤ) → ℤ
-modelValue C x = alphaPart C x +ℤ at gtm milliradians C.η x
+abbrev pub model_value : Coefficient → (ℕ → ℤ) → ℤ
+model_value C x = alpha_part C x +ℤ at gtm milliradians C.η x

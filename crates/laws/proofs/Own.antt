@@ -15,7 +15,7 @@ use lib.Seq.{take-take, take-nil, drop-drop}
 use Rattle.polynomials.specs.Order.{size}
 use Rattle.polynomials.specs.Groups.{Group}
 use Rattle.layout.specs.declared.Kind.{Kind}
-use Rattle.layout.specs.Shape.{Shape, kindsLength, blockLength, blockStart, own, shared, own_at, shared_at}
+use Rattle.layout.specs.Shape.{Shape, kinds_length, block_length, block_start, own, shared, own_at, shared_at}
 use Rattle.layout.specs.Blocks.{Piece, low, high, piece, led, groups, chosen, coefficient}
 use Rattle.layout.proofs.Fine.{Split}
 
@@ -25,8 +25,8 @@ drop-take (suc n) zero l = let e : 0 ≡ 0 - suc n = omega arith in ap (λ m. ta
 drop-take (suc n) (suc m) [] = sym (take-nil (suc m - suc n))
 drop-take (suc n) (suc m) (a ∷ l) = simp unary_clauses (drop-take n m l)
 
-pub groups-take : (ks : List Kind) (m : ℕ) (l : List ℤ) → kindsLength ks ≤ m → groups ks (take m l) ≡ groups ks l
-unfolding groups kindsLength
+pub groups-take : (ks : List Kind) (m : ℕ) (l : List ℤ) → kinds_length ks ≤ m → groups ks (take m l) ≡ groups ks l
+unfolding groups kinds_length
 groups-take [] m l h = refl
 groups-take (k ∷ ks) m l h =
     let n = size k.degree in
@@ -42,18 +42,18 @@ module _ (S : Shape) (f : Split S) where
   abbrev s : ℕ
   s = size (own S).degree
 
-  pub block-long : blockLength S ≡ 2 * s + kindsLength (shared S)
-  unfolding kindsLength
-  block-long = ap kindsLength f.kinds ∙ omega arith
+  pub block-long : block_length S ≡ 2 * s + kinds_length (shared S)
+  unfolding kinds_length
+  block-long = ap kinds_length f.kinds ∙ omega arith
 
-  pub own-inside : (n : ℕ) → n < 2 → s * n + s ≤ blockLength S
+  pub own-inside : (n : ℕ) → n < 2 → s * n + s ≤ block_length S
   own-inside zero h = omega (arith, block-long)
   own-inside (suc zero) h = omega (arith, block-long)
   own-inside (suc (suc n)) h = absurd (omega arith)
 
   module _ (t : List ℤ) (b : ℕ) where
     abbrev start : ℕ
-    start = blockStart S b
+    start = block_start S b
 
     abbrev held : List ℤ → List ℤ → List ℤ → ℕ → List Group
     held l m r n = chosen (piece n) 0 (led (own S) l ∷ led (own S) m ∷ groups (shared S) r)
@@ -61,7 +61,7 @@ module _ (S : Shape) (f : Split S) where
     all : (n : ℕ) → coefficient S t b (piece n) ≡ held (drop start t) (drop s (drop start t)) (drop s (drop s (drop start t))) n
     unfolding coefficient groups
     all n =
-        ap (chosen (piece n) 0) (groups-take S.kinds (blockLength S) (drop start t) (N.le_refl (blockLength S)))
+        ap (chosen (piece n) 0) (groups-take S.kinds (block_length S) (drop start t) (N.le_refl (block_length S)))
         ∙ ap (λ ks. chosen (piece n) 0 (groups ks (drop start t))) f.kinds
 
     at_second : drop s (drop start t) ≡ drop (own_at S start 1) t

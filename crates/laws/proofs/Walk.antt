@@ -12,7 +12,7 @@ use lib.ListN.{length, drop}
 use lib.Seq.{drop-cons, drop-nil, drop-drop}
 use Rattle.polynomials.specs.Order.{size}
 use Rattle.layout.specs.declared.Kind.{Kind}
-use Rattle.layout.specs.Shape.{Shape, kindsLength, kind_at}
+use Rattle.layout.specs.Shape.{Shape, kinds_length, kind_at}
 use Rattle.layout.specs.Blocks.{led, groups}
 
 pub at-kind : (S : Shape) (g : ℕ) (k : Kind) → g < length S.kinds → k ≡ kind_at S g → drop g S.kinds ≡ k ∷ drop (g + 1) S.kinds
@@ -20,9 +20,9 @@ at-kind S g k h e = drop-cons S.kinds g _ h ∙ ap₂ (λ a n. a ∷ drop n S.ki
 
 module _ (S : Shape) (g : ℕ) where
   module _ (k : Kind) (e : drop g S.kinds ≡ k ∷ drop (g + 1) S.kinds) where
-    pub length-next : kindsLength (drop g S.kinds) ≡ size k.degree + kindsLength (drop (g + 1) S.kinds)
-    unfolding kindsLength
-    length-next = ap kindsLength e
+    pub length-next : kinds_length (drop g S.kinds) ≡ size k.degree + kinds_length (drop (g + 1) S.kinds)
+    unfolding kinds_length
+    length-next = ap kinds_length e
 
     pub groups-next : (l : List ℤ) (at : ℕ) → groups (drop g S.kinds) (drop at l) ≡ led k (drop at l) ∷ groups (drop (g + 1) S.kinds) (drop (at + size k.degree) l)
     unfolding groups
@@ -34,9 +34,9 @@ module _ (S : Shape) (g : ℕ) where
     past zero (a ∷ l) h = absurd (omega arith)
     past (suc n) (a ∷ l) h = past n l (omega arith)
 
-    pub length_none : kindsLength (drop g S.kinds) ≡ 0
-    unfolding kindsLength
-    length_none = ap kindsLength (past g S.kinds h)
+    pub length_none : kinds_length (drop g S.kinds) ≡ 0
+    unfolding kinds_length
+    length_none = ap kinds_length (past g S.kinds h)
 
     pub groups_none : (l : List ℤ) → groups (drop g S.kinds) l ≡ []
     unfolding groups

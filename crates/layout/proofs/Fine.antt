@@ -12,12 +12,12 @@ use native.Mathlib.Nat as N
 use native.Mathlib.Omega.{arith}
 use lib.ListN.{length, get_or, drop}
 use Rattle.polynomials.specs.Order.{below}
-use Rattle.polynomials.specs.Limits.{highestDegree}
+use Rattle.polynomials.specs.Limits.{highest_degree}
 use Rattle.layout.specs.declared.Kind.{Kind}
 use Rattle.layout.specs.declared.Model.{Model}
 use Rattle.layout.specs.declared.Model.TheVariants.{Cumulus, Gtm}
-use Rattle.layout.specs.Shape.{Shape, WellFormed, fineCuts, limitsLength, kindsLength, blockLength, blockStart, tableLength, cumulus, gtm, shape, kind_at, own, shared}
-use Rattle.layout.specs.Numbers.{tableSize, variablesRoom, limitsRoom}
+use Rattle.layout.specs.Shape.{Shape, WellFormed, fine_cuts, limits_length, kinds_length, block_length, block_start, table_length, cumulus, gtm, shape, kind_at, own, shared}
+use Rattle.layout.specs.Numbers.{table_size, variables_room, limits_room}
 
 pub well-formed : (m : Model) → WellFormed (shape m)
 well-formed Cumulus = record { has-variable = omega arith; in-variables = omega arith; named = λ i k h l e. e }
@@ -28,9 +28,9 @@ pub record FineKind (n : ℕ) (k : Kind) : Type 0 where
   pub first : k.u < n
   pub second : k.v < n
   pub apart : k.u ≡ k.v → ⊥
-  pub few : k.degree ≤ highestDegree
+  pub few : k.degree ≤ highest_degree
 
-kind : {n : ℕ} {k : Kind} → k.u < n → k.v < n → (k.u ≡ k.v → ⊥) → k.degree ≤ highestDegree → FineKind n k
+kind : {n : ℕ} {k : Kind} → k.u < n → k.v < n → (k.u ≡ k.v → ⊥) → k.degree ≤ highest_degree → FineKind n k
 kind a b c d = record { first = a; second = b; apart = c; few = d }
 
 unfoldable pub Fine : ℕ → List Kind → Type 0
@@ -91,29 +91,29 @@ unfolding Fine
 own-fine m = (subst (Fine (shape m).variables) (split m).kinds (fine m)).0
 
 -- ════ how many
-pub inside : (S : Shape) (b : ℕ) → b < S.blocks → blockStart S b + blockLength S ≤ tableLength S
-inside S b h = omega (arith, N.mul-suc (blockLength S) b, N.mul-le-mul_left (blockLength S) h)
+pub inside : (S : Shape) (b : ℕ) → b < S.blocks → block_start S b + block_length S ≤ table_length S
+inside S b h = omega (arith, N.mul-suc (block_length S) b, N.mul-le-mul_left (block_length S) h)
 
-pub few-variables : (m : Model) → (shape m).variables ≤ variablesRoom
+pub few-variables : (m : Model) → (shape m).variables ≤ variables_room
 few-variables Cumulus = omega arith
 few-variables Gtm = omega arith
 
-pub few-limits : (m : Model) → limitsLength (shape m) ≤ limitsRoom
+pub few-limits : (m : Model) → limits_length (shape m) ≤ limits_room
 few-limits Cumulus = omega arith
 few-limits Gtm = omega arith
 
 -- the room has those of any variable that there is room for
-pub few-fine : (m : Model) → 1 + fineCuts (shape m) + 2 * variablesRoom ≤ limitsRoom
+pub few-fine : (m : Model) → 1 + fine_cuts (shape m) + 2 * variables_room ≤ limits_room
 few-fine Cumulus = omega arith
 few-fine Gtm = omega arith
 
-pub few-table : (m : Model) → tableLength (shape m) ≤ tableSize
-unfolding kindsLength below
+pub few-table : (m : Model) → table_length (shape m) ≤ table_size
+unfolding kinds_length below
 few-table Cumulus = omega arith
 few-table Gtm = omega arith
 
-pub few-block : (m : Model) → blockLength (shape m) ≤ tableSize
-unfolding kindsLength below
+pub few-block : (m : Model) → block_length (shape m) ≤ table_size
+unfolding kinds_length below
 few-block Cumulus = omega arith
 few-block Gtm = omega arith
 
@@ -121,13 +121,13 @@ pub some-blocks : (m : Model) → 0 < (shape m).blocks
 some-blocks Cumulus = omega arith
 some-blocks Gtm = omega arith
 
-pub some_block : (m : Model) → 0 < blockLength (shape m)
-unfolding kindsLength below
+pub some_block : (m : Model) → 0 < block_length (shape m)
+unfolding kinds_length below
 some_block Cumulus = omega arith
 some_block Gtm = omega arith
 
 -- a table has more numbers than the room for its limits
-pub some-table : (m : Model) → limitsRoom ≤ tableLength (shape m)
-unfolding kindsLength below
+pub some-table : (m : Model) → limits_room ≤ table_length (shape m)
+unfolding kinds_length below
 some-table Cumulus = omega arith
 some-table Gtm = omega arith

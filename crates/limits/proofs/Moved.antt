@@ -9,28 +9,28 @@ use native.Mathlib.Omega.{arith}
 use lib.Dec.{eqb}
 use lib.IntN.{ℤ, pos, ◌-ℤ◌}
 use Rattle.polynomials.specs.Sum.{listed}
-use Rattle.polynomials.proofs.Listed.{getD-listed}
+use Rattle.polynomials.proofs.Listed.{get_or-listed}
 use Rattle.layout.specs.declared.Model.{Model}
 use Rattle.layout.specs.Shape.{Shape, shape}
-use Rattle.layout.specs.Numbers.{limitsRoom}
-use Rattle.layout.specs.Limits.{allInRange, good}
-use Rattle.layout.specs.Moving.{owner, shiftAt, movedLimit, movedLimits}
+use Rattle.layout.specs.Numbers.{limits_room}
+use Rattle.layout.specs.Limits.{all_in_range, good}
+use Rattle.layout.specs.Moving.{owner, shift_at, moved_limit, moved_limits}
 use Rattle.layout.proofs.Fine.{well-formed, few-limits}
 use Rattle.laws.proofs.LimitLaws.{SameLimits, good-same}
-use Rattle.laws.proofs.Moved.{getD-movedLimits}
+use Rattle.laws.proofs.Moved.{get_or-moved_limits}
 use Rattle.laws.proofs.SoundMoved.{moved-good-range}
 
 module _ (m : Model) (i : ℕ) (s : ℤ) (n t : List ℤ) (same : SameLimits (shape m) n t) where
   abbrev S : Shape
   S = shape m
 
-  pub room_moved : SameLimits S (listed limitsRoom (movedLimit S i s n)) (movedLimits S i s t)
-  unfolding movedLimit
+  pub room_moved : SameLimits S (listed limits_room (moved_limit S i s n)) (moved_limits S i s t)
+  unfolding moved_limit
   room_moved =
       record {
         at = λ k h.
-            getD-listed limitsRoom (movedLimit S i s n) k (pos 0) (omega (arith, few-limits m)) ∙ ap (λ z. cond (eqb (owner S k) i) (z -ℤ shiftAt S k s) z) (same.at k h) ∙ sym (getD-movedLimits S i s t k h);
+            get_or-listed limits_room (moved_limit S i s n) k (pos 0) (omega (arith, few-limits m)) ∙ ap (λ z. cond (eqb (owner S k) i) (z -ℤ shift_at S k s) z) (same.at k h) ∙ sym (get_or-moved_limits S i s t k h);
       }
 
-  pub good-room-moved : good S t ≡ true → good S (listed limitsRoom (movedLimit S i s n)) ≡ allInRange S (movedLimits S i s t)
+  pub good-room-moved : good S t ≡ true → good S (listed limits_room (moved_limit S i s n)) ≡ all_in_range S (moved_limits S i s t)
   good-room-moved g = good-same room_moved (well-formed m).has-variable ∙ moved-good-range S i s t (well-formed m).has-variable g

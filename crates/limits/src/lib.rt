@@ -2,16 +2,16 @@
 ghost use Rattle.std.specs.Prelude.{◌≡◌, true, not, cond, ◌&&◌, ◌≤◌, ◌<◌, max, ltb, pos, nat_abs, ◌+ℤ◌, length, take, get_or};
 ghost use Rattle.std.specs.Int.Signed.{le_z};
 ghost use Rattle.polynomials.specs.Sum.{listed};
-ghost use Rattle.layout.specs.Shape.{shape, lowestPlace};
-ghost use Rattle.layout.specs.Numbers.{variablesRoom, limitsRoom};
-ghost use Rattle.layout.specs.Limits.{lowest, highest, cut, fineCut, isFineCut, longestShift, allInRange, cutsAgree, good};
+ghost use Rattle.layout.specs.Shape.{shape, lowest_place};
+ghost use Rattle.layout.specs.Numbers.{variables_room, limits_room};
+ghost use Rattle.layout.specs.Limits.{lowest, highest, cut, fine_cut, is_fine_cut, longest_shift, all_in_range, cuts_agree, good};
 ghost use Rattle.layout.specs.Blocks.{piece as piece_of};
 ghost use Rattle.layout.specs.Sound.{span, reach};
-ghost use Rattle.layout.specs.Reaches.{listedReaches};
+ghost use Rattle.layout.specs.Reaches.{listed_reaches};
 ghost use Rattle.layout.specs.Refusals.{outside, first, ◌when◌};
 ghost use Rattle.layout.specs.Reading.{readings, inside};
-ghost use Rattle.layout.specs.Moving.{owner, shiftAt, movedLimit};
-ghost use Rattle.limits.specs.Good.{variableGood, firstGood, othersGood};
+ghost use Rattle.layout.specs.Moving.{owner, shift_at, moved_limit};
+ghost use Rattle.limits.specs.Good.{variable_good, first_good, others_good};
 
 use layout::refusals::DONE;
 use layout::{LIMITS_ROOM, Model, REACHES_ROOM, VARIABLES_ROOM};
@@ -63,8 +63,8 @@ fn span(a: i64, b: i64) -> u64
 impl Limits {
     // The first numbers of a table.
     pub fn of(model: Model, table: &[i64]) -> Limits
-        requires { limitsRoom ≤ length table.now }
-        ensures { (result.model ≡ model) × (result.numbers ≡ take limitsRoom table.now) }
+        requires { limits_room ≤ length table.now }
+        ensures { (result.model ≡ model) × (result.numbers ≡ take limits_room table.now) }
     {
         let mut numbers: [i64; LIMITS_ROOM] = [0; LIMITS_ROOM];
         let mut k: usize = 0;
@@ -81,7 +81,7 @@ impl Limits {
 
     // The limit at a place.
     fn at(self, place: usize) -> i64
-        requires { place < limitsRoom }
+        requires { place < limits_room }
         ensures { result ≡ get_or self.numbers place (pos 0) }
     {
         let numbers = self.numbers;
@@ -90,8 +90,8 @@ impl Limits {
 
     // Where the limits of a variable stand that is not the first: its lowest, then its highest.
     fn start(self, variable: usize) -> usize
-        requires { (0 < variable) × (variable < variablesRoom) }
-        ensures { result ≡ lowestPlace (shape self.model) variable }
+        requires { (0 < variable) × (variable < variables_room) }
+        ensures { result ≡ lowest_place (shape self.model) variable }
     {
         let model = self.model;
         2 * variable + 1 + shapes::fine_cuts(model)
@@ -99,7 +99,7 @@ impl Limits {
 
     // The lowest reading of a variable.
     pub fn lowest(self, variable: usize) -> i64
-        requires { variable < variablesRoom }
+        requires { variable < variables_room }
         ensures { result ≡ lowest (shape self.model) self.numbers variable }
     {
         if variable > 0 {
@@ -110,7 +110,7 @@ impl Limits {
 
     // The highest reading of a variable.
     pub fn highest(self, variable: usize) -> i64
-        requires { variable < variablesRoom }
+        requires { variable < variables_room }
         ensures { result ≡ highest (shape self.model) self.numbers variable }
     {
         if variable > 0 {
@@ -121,7 +121,7 @@ impl Limits {
 
     // Whether the fine cut stands at a place.
     fn is_fine_cut(self, place: usize) -> bool
-        ensures { result ≡ isFineCut (shape self.model) place }
+        ensures { result ≡ is_fine_cut (shape self.model) place }
     {
         let model = self.model;
         shapes::has_fine_cut(model) & (place == FINE_CUT)
@@ -141,8 +141,8 @@ impl Limits {
 
     // Whether the limits of a variable are in range and in order, or the model has no such variable.
     fn variable_good(self, variable: usize) -> bool
-        requires { variable < variablesRoom }
-        ensures { result ≡ cond (ltb variable (shape self.model).variables) (variableGood (shape self.model) self.numbers variable) true }
+        requires { variable < variables_room }
+        ensures { result ≡ cond (ltb variable (shape self.model).variables) (variable_good (shape self.model) self.numbers variable) true }
     {
         let model = self.model;
         if variable >= shapes::variables(model) {
@@ -155,7 +155,7 @@ impl Limits {
 
     // The same of variable 0, whose cut leaves it a low and a high piece: it lies between the ends, and is in range with them.
     fn first_good(self) -> bool
-        ensures { result ≡ firstGood (shape self.model) self.numbers }
+        ensures { result ≡ first_good (shape self.model) self.numbers }
     {
         let lowest = self.lowest(0);
         let cut = self.at(CUT);
@@ -165,7 +165,7 @@ impl Limits {
 
     // The same of every variable but the first.
     fn others_good(self) -> bool
-        ensures { result ≡ othersGood (shape self.model) self.numbers }
+        ensures { result ≡ others_good (shape self.model) self.numbers }
     {
         let mut variable: usize = 1;
         while variable < VARIABLES_ROOM {
@@ -179,8 +179,8 @@ impl Limits {
 
     // Whether the cut is the fine cut divided by 1000 and rounded down.
     fn cuts_agree(self) -> bool
-        requires { allInRange (shape self.model) self.numbers ≡ true }
-        ensures { result ≡ cutsAgree (shape self.model) self.numbers }
+        requires { all_in_range (shape self.model) self.numbers ≡ true }
+        ensures { result ≡ cuts_agree (shape self.model) self.numbers }
     {
         let model = self.model;
         if !shapes::has_fine_cut(model) {
@@ -206,8 +206,8 @@ impl Limits {
 
     // A shift as it counts at a place: in thousandths at the fine cut.
     fn shift_at(self, place: usize, shift: i64) -> i64
-        requires { nat_abs shift ≤ longestShift }
-        ensures { result ≡ shiftAt (shape self.model) place shift }
+        requires { nat_abs shift ≤ longest_shift }
+        ensures { result ≡ shift_at (shape self.model) place shift }
     {
         if self.is_fine_cut(place) {
             return THOUSAND * shift;
@@ -217,8 +217,8 @@ impl Limits {
 
     // The limit at a place once the datum of a variable is moved.
     fn moved_limit(self, variable: usize, shift: i64, place: usize) -> i64
-        requires { (good (shape self.model) self.numbers ≡ true) × ((nat_abs shift ≤ longestShift) × ((variable < (shape self.model).variables) × (place < limitsRoom))) }
-        ensures { result ≡ movedLimit (shape self.model) variable shift self.numbers place }
+        requires { (good (shape self.model) self.numbers ≡ true) × ((nat_abs shift ≤ longest_shift) × ((variable < (shape self.model).variables) × (place < limits_room))) }
+        ensures { result ≡ moved_limit (shape self.model) variable shift self.numbers place }
     {
         let number = self.at(place);
         if self.owner(place) == variable {
@@ -229,8 +229,8 @@ impl Limits {
 
     // The limits with each of one variable less `shift`, and the fine cut by its thousandths.
     pub fn moved(self, variable: usize, shift: i64) -> Limits
-        requires { (good (shape self.model) self.numbers ≡ true) × ((nat_abs shift ≤ longestShift) × (variable < (shape self.model).variables)) }
-        ensures { (result.model ≡ self.model) × (result.numbers ≡ listed limitsRoom (movedLimit (shape self.model) variable shift self.numbers)) }
+        requires { (good (shape self.model) self.numbers ≡ true) × ((nat_abs shift ≤ longest_shift) × (variable < (shape self.model).variables)) }
+        ensures { (result.model ≡ self.model) × (result.numbers ≡ listed limits_room (moved_limit (shape self.model) variable shift self.numbers)) }
     {
         let model = self.model;
         let mut numbers: [i64; LIMITS_ROOM] = [0; LIMITS_ROOM];
@@ -248,7 +248,7 @@ impl Limits {
 
     // The cut of variable 0, or the number after it.
     fn cut_or_next(self, next: bool) -> i64
-        requires { allInRange (shape self.model) self.numbers ≡ true }
+        requires { all_in_range (shape self.model) self.numbers ≡ true }
         ensures { result ≡ cond next (cut (shape self.model) self.numbers +ℤ pos 1) (cut (shape self.model) self.numbers) }
     {
         let cut = self.at(CUT);
@@ -261,7 +261,7 @@ impl Limits {
     // How far a variable reaches in a piece: 0 is the low piece, any other number the high one. By a fine cut each piece has the cut and the number
     // after it; without one the cut is the last of the low piece.
     fn reach(self, piece: usize, variable: usize) -> u64
-        requires { (allInRange (shape self.model) self.numbers ≡ true) × (variable < variablesRoom) }
+        requires { (all_in_range (shape self.model) self.numbers ≡ true) × (variable < variables_room) }
         ensures { result ≡ reach (shape self.model) self.numbers (piece_of piece) variable }
     {
         if variable == 0 {
@@ -277,8 +277,8 @@ impl Limits {
 
     // The reaches: that of variable 0 in the low piece, then those of every variable in the high piece.
     pub fn reaches(self) -> [u64; REACHES_ROOM]
-        requires { allInRange (shape self.model) self.numbers ≡ true }
-        ensures { result ≡ listedReaches (reach (shape self.model) self.numbers) }
+        requires { all_in_range (shape self.model) self.numbers ≡ true }
+        ensures { result ≡ listed_reaches (reach (shape self.model) self.numbers) }
     {
         [
             self.reach(0, 0),
@@ -292,7 +292,7 @@ impl Limits {
 
     // Whether a reading lies within the limits of a variable, ends included.
     pub fn inside(self, variable: usize, x: i64) -> bool
-        requires { variable < variablesRoom }
+        requires { variable < variables_room }
         ensures { result ≡ (le_z (lowest (shape self.model) self.numbers variable) x && le_z x (highest (shape self.model) self.numbers variable)) }
     {
         (self.lowest(variable) <= x) & (x <= self.highest(variable))
@@ -320,7 +320,7 @@ impl Limits {
 
     // The fine cut of variable 0, where the model has one.
     pub fn fine_cut(self) -> i64
-        ensures { result ≡ fineCut (shape self.model) self.numbers }
+        ensures { result ≡ fine_cut (shape self.model) self.numbers }
     {
         self.at(FINE_CUT)
     }

@@ -80,9 +80,9 @@ unfolding parse
 signs-and-zeros = refl
 
 -- `1 2 3 4 5`: each in its place
-in_order : parse (n1 ∷ ␣ ∷ n2 ∷ ␣ ∷ n3 ∷ ␣ ∷ n4 ∷ ␣ ∷ n5 ∷ []) ≡ Readings (pos 1) (pos 2) (pos 3) (pos 4) (pos 5)
+in_order_lem : parse (n1 ∷ ␣ ∷ n2 ∷ ␣ ∷ n3 ∷ ␣ ∷ n4 ∷ ␣ ∷ n5 ∷ []) ≡ Readings (pos 1) (pos 2) (pos 3) (pos 4) (pos 5)
 unfolding parse
-in_order = refl
+in_order_lem = refl
 
 -- the empty line; `1 2 3 4`; `1 2 3 4 5 `; ` 1 2 3 4 5`; `1  2 3 4 5`; `1 2 3 4 5 5`
 no_lines :

@@ -13,8 +13,8 @@ use lib.ListN.{length, drop}
 use Rattle.lines.specs.declared.Line.{Line}
 use Rattle.lines.specs.declared.Line.TheVariants.{Readings, Malformed}
 use Rattle.lines.specs.declared.State.{State}
-use Rattle.lines.specs.Line.{onto, words, isDigit, signed, number, with, allNumbers, five, parse}
-use Rattle.lines.specs.State.{oneDigit, fourDigits, number_of, start, refused, shifted, ended, negated, minus, withDigit, digit, stepped, steppedBy, finished}
+use Rattle.lines.specs.Line.{onto, words, is_digit, signed, number, with, all_numbers, five, parse}
+use Rattle.lines.specs.State.{one_digit, four_digits, number_of, start, refused, shifted, ended, negated, minus, with_digit, digit, stepped, stepped_by, finished}
 use Rattle.lines.proofs.Digits.{Digits, none_yet, has-digit, full, room, value, empty, more}
 use Rattle.lines.proofs.Words.{rest, rest-digit, rest-full, rest-other, rest-minus, rest-twice, rest-late, rest-empty, rest_end}
 
@@ -55,7 +55,7 @@ joined xs (some ys) = some (xs ++ ys)
 
 -- the line, with the numbers of the words that have ended, that of the next, and the words behind it
 line : List ℤ → Option ℤ → List (List ℕ) → Line
-line xs x ws = five (joined xs (with x (allNumbers (map number ws))))
+line xs x ws = five (joined xs (with x (all_numbers (map number ws))))
 
 line-none : (xs : List ℤ) (ws : List (List ℕ)) → line xs none ws ≡ Malformed
 unfolding line joined
@@ -68,7 +68,7 @@ joined-more xs x (some ys) = ap some (sym (append_assoc xs (x ∷ []) ys))
 
 line-more : (xs : List ℤ) (x : ℤ) (w : List ℕ) (ws : List (List ℕ)) → line xs (some x) (w ∷ ws) ≡ line (xs ++ x ∷ []) (number w) ws
 unfolding line
-line-more xs x w ws = ap five (joined-more xs x (allNumbers (map number (w ∷ ws))))
+line-more xs x w ws = ap five (joined-more xs x (all_numbers (map number (w ∷ ws))))
 
 -- six words are too many
 six : (a b c d e f : ℤ) (xs : List ℤ) → five (some (a ∷ b ∷ c ∷ d ∷ e ∷ f ∷ xs)) ≡ Malformed
@@ -77,7 +77,7 @@ six a b c d e f xs =
 
 line-six : (a b c d x : ℤ) (w : List ℕ) (ws : List (List ℕ)) → line (a ∷ b ∷ c ∷ d ∷ []) (some x) (w ∷ ws) ≡ Malformed
 unfolding line joined
-line-six a b c d x w ws = by (number w) (allNumbers (map number ws)) where
+line-six a b c d x w ws = by (number w) (all_numbers (map number ws)) where
   by : (y : Option ℤ) (r : Option (List ℤ)) → five (joined (a ∷ b ∷ c ∷ d ∷ []) (with (some x) (with y r))) ≡ Malformed
   by none r = refl
   by (some y) none = refl
@@ -114,11 +114,11 @@ abbrev negative : State → Bool
 negative s = ltb 0 s.minus
 
 -- the line that a state and the bytes to come make
-lineFrom : State → ℕ → ℕ → List ℕ → List (List ℕ) → Line
-lineFrom s k v w ws = line (held s.words s.alpha s.beta s.xi s.eta) (rest (negative s) k v w) ws
+line_from : State → ℕ → ℕ → List ℕ → List (List ℕ) → Line
+line_from s k v w ws = line (held s.words s.alpha s.beta s.xi s.eta) (rest (negative s) k v w) ws
 
-spoilt : (s : State) (k v : ℕ) (w : List ℕ) (ws : List (List ℕ)) → rest (negative s) k v w ≡ none → lineFrom s k v w ws ≡ Malformed
-unfolding lineFrom
+spoilt : (s : State) (k v : ℕ) (w : List ℕ) (ws : List (List ℕ)) → rest (negative s) k v w ≡ none → line_from s k v w ws ≡ Malformed
+unfolding line_from
 spoilt s k v w ws e =
     ap (λ x. line (held s.words s.alpha s.beta s.xi s.eta) x ws) e
     ∙ line-none (held s.words s.alpha s.beta s.xi s.eta) ws
@@ -133,11 +133,11 @@ no_shift s e = ap (λ n. (cond (leb 4 n) (refused s) (shifted s)).words) e
 
 step-malformed : (s : State) (b : ℕ) → s.words ≡ 5 → (stepped s b).words ≡ 5
 step-malformed s b e =
-    either (isDigit b) (digit s (b - 48)) _ (either (leb fourDigits s.digits) (refused s) (withDigit s (b - 48)) refl e)
-    (either (eqb b 32) (ended s) _ (either (ltb s.digits oneDigit) (refused s) _ refl (no_shift s e))
-    (either (eqb b 45) (minus s) (refused s) (either (ltb 0 s.minus) (refused s) _ refl (either (leb oneDigit s.digits) (refused s) (negated s) refl e)) refl))
+    either (is_digit b) (digit s (b - 48)) _ (either (leb four_digits s.digits) (refused s) (with_digit s (b - 48)) refl e)
+    (either (eqb b 32) (ended s) _ (either (ltb s.digits one_digit) (refused s) _ refl (no_shift s e))
+    (either (eqb b 45) (minus s) (refused s) (either (ltb 0 s.minus) (refused s) _ refl (either (leb one_digit s.digits) (refused s) (negated s) refl e)) refl))
 
-malformed : (s : State) (bs : List ℕ) → s.words ≡ 5 → finished (steppedBy s bs) ≡ Malformed
+malformed : (s : State) (bs : List ℕ) → s.words ≡ 5 → finished (stepped_by s bs) ≡ Malformed
 malformed s [] e = simp e
 malformed s (b ∷ bs) e = malformed (stepped s b) bs (step-malformed s b e)
 
@@ -155,16 +155,16 @@ module _ (b : ℕ) where
   high true f = leb-true b 57 f
   high false f = absurd (subst (λ c. T (not c)) f tt)
 
-  digit_low : isDigit b ≡ true → 48 ≤ b
+  digit_low : is_digit b ≡ true → 48 ≤ b
   digit_low e = low (leb 48 b) refl e
 
-  digit-worth : isDigit b ≡ true → b - 48 ≤ 9
+  digit-worth : is_digit b ≡ true → b - 48 ≤ 9
   digit-worth e = let h = high (leb 48 b) e in omega arith
 
-other_byte : (b n : ℕ) → n < 48 → isDigit b ≡ true → eqb b n ≡ false
+other_byte : (b n : ℕ) → n < 48 → is_digit b ≡ true → eqb b n ≡ false
 other_byte b n h e = ne_eqb b n (λ f. omega (arith, digit_low b e))
 
-module _ (bs : List ℕ) (ih : (s : State) (k v : ℕ) → Good s k v → finished (steppedBy s bs) ≡ lineFrom s k v (first (words bs)) (others (words bs))) (s : State) (k v : ℕ) (good : Good s k v) where
+module _ (bs : List ℕ) (ih : (s : State) (k v : ℕ) → Good s k v → finished (stepped_by s bs) ≡ line_from s k v (first (words bs)) (others (words bs))) (s : State) (k v : ℕ) (good : Good s k v) where
   -- the rest of the word that has not ended
   abbrev tail : List ℕ → Option ℤ
   tail = rest (negative s) k v
@@ -172,13 +172,13 @@ module _ (bs : List ℕ) (ih : (s : State) (k v : ℕ) → Good s k v → finish
   abbrev H : List ℤ
   H = held s.words s.alpha s.beta s.xi s.eta
 
-  stopped : (w : List ℕ) (ws : List (List ℕ)) → tail w ≡ none → finished (steppedBy (refused s) bs) ≡ lineFrom s k v w ws
+  stopped : (w : List ℕ) (ws : List (List ℕ)) → tail w ≡ none → finished (stepped_by (refused s) bs) ≡ line_from s k v w ws
   stopped w ws e = malformed (refused s) bs refl ∙ sym (spoilt s k v w ws e)
 
   taken : (r : State) (k' v' b : ℕ) → Good r k' v' → held r.words r.alpha r.beta r.xi r.eta ≡ H
       → tail (b ∷ first (words bs)) ≡ rest (negative r) k' v' (first (words bs))
-      → finished (steppedBy r bs) ≡ lineFrom s k v (b ∷ first (words bs)) (others (words bs))
-  unfolding lineFrom
+      → finished (stepped_by r bs) ≡ line_from s k v (b ∷ first (words bs)) (others (words bs))
+  unfolding line_from
   taken r k' v' b g e f = ih r k' v' g ∙ ap₂ (λ h y. line h y (others (words bs))) e (sym f)
 
   -- a space
@@ -188,12 +188,12 @@ module _ (bs : List ℕ) (ih : (s : State) (k v : ℕ) → Good s k v → finish
       let e : s.words ≡ 4 = omega (arith, good.words-few) in
       ap (λ n. drop (4 - n) (s.alpha ∷ s.beta ∷ s.xi ∷ s.eta ∷ [])) e
 
-  ended-line : 0 < k → lineFrom s k v [] (words bs) ≡ line H (some (signed (negative s) v)) (first (words bs) ∷ others (words bs))
-  unfolding lineFrom
+  ended-line : 0 < k → line_from s k v [] (words bs) ≡ line H (some (signed (negative s) v)) (first (words bs) ∷ others (words bs))
+  unfolding line_from
   ended-line h = ap₂ (line H) (rest_end (negative s) k v h good.digits.few) (has_first bs)
 
-  next-line : 0 < k → s.words < 4 → lineFrom (shifted s) 0 0 (first (words bs)) (others (words bs)) ≡ lineFrom s k v [] (words bs)
-  unfolding lineFrom
+  next-line : 0 < k → s.words < 4 → line_from (shifted s) 0 0 (first (words bs)) (others (words bs)) ≡ line_from s k v [] (words bs)
+  unfolding line_from
   next-line h l =
       let x = signed (negative s) v in
       ap (λ n. line (held (s.words + 1) s.beta s.xi s.eta (signed (negative s) n)) (number (first (words bs))) (others (words bs))) (value good.digits)
@@ -201,26 +201,26 @@ module _ (bs : List ℕ) (ih : (s : State) (k v : ℕ) → Good s k v → finish
       ∙ sym (line-more H x (first (words bs)) (others (words bs)))
       ∙ sym (ended-line h)
 
-  at-space : (t u : Bool) → ltb s.digits oneDigit ≡ t → leb 4 s.words ≡ u
-      → finished (steppedBy (cond t (refused s) (cond u (refused s) (shifted s))) bs) ≡ lineFrom s k v [] (words bs)
+  at-space : (t u : Bool) → ltb s.digits one_digit ≡ t → leb 4 s.words ≡ u
+      → finished (stepped_by (cond t (refused s) (cond u (refused s) (shifted s))) bs) ≡ line_from s k v [] (words bs)
   at-space true u e f =
-      stopped [] (words bs) (ap (λ k. rest (negative s) k v []) (none_yet k good.digits (ltb-true s.digits oneDigit e)) ∙ rest-empty (negative s) v)
+      stopped [] (words bs) (ap (λ k. rest (negative s) k v []) (none_yet k good.digits (ltb-true s.digits one_digit e)) ∙ rest-empty (negative s) v)
   at-space false true e f =
       malformed (refused s) bs refl
-      ∙ sym (ended-line (has-digit k good.digits (ltb-false s.digits oneDigit e)) ∙ ap (λ h. line h (some (signed (negative s) v)) (first (words bs) ∷ others (words bs))) (fifth (leb-true 4 s.words f)) ∙ line-six _ _ _ _ _ _ _)
+      ∙ sym (ended-line (has-digit k good.digits (ltb-false s.digits one_digit e)) ∙ ap (λ h. line h (some (signed (negative s) v)) (first (words bs) ∷ others (words bs))) (fifth (leb-true 4 s.words f)) ∙ line-six _ _ _ _ _ _ _)
   at-space false false e f =
       let l = leb-false 4 s.words f in
-      ih (shifted s) 0 0 (record { words-few = omega arith; digits = empty }) ∙ next-line (has-digit k good.digits (ltb-false s.digits oneDigit e)) l
+      ih (shifted s) 0 0 (record { words-few = omega arith; digits = empty }) ∙ next-line (has-digit k good.digits (ltb-false s.digits one_digit e)) l
 
   -- a minus
-  at-minus : (b : ℕ) (n t : Bool) → eqb b 45 ≡ true → negative s ≡ n → leb oneDigit s.digits ≡ t
-      → finished (steppedBy (cond n (refused s) (cond t (refused s) (negated s))) bs) ≡ lineFrom s k v (b ∷ first (words bs)) (others (words bs))
+  at-minus : (b : ℕ) (n t : Bool) → eqb b 45 ≡ true → negative s ≡ n → leb one_digit s.digits ≡ t
+      → finished (stepped_by (cond n (refused s) (cond t (refused s) (negated s))) bs) ≡ line_from s k v (b ∷ first (words bs)) (others (words bs))
   at-minus b true t m e f =
       stopped (b ∷ first (words bs)) (others (words bs)) (ap (λ n. rest n k v (b ∷ first (words bs))) e ∙ rest-twice k v b (first (words bs)) m)
   at-minus b false true m e f =
-      stopped (b ∷ first (words bs)) (others (words bs)) (rest-late (negative s) k v b (first (words bs)) (has-digit k good.digits (leb-true oneDigit s.digits f)) m)
+      stopped (b ∷ first (words bs)) (others (words bs)) (rest-late (negative s) k v b (first (words bs)) (has-digit k good.digits (leb-true one_digit s.digits f)) m)
   at-minus b false false m e f =
-      let none_here : k ≡ 0 = none_yet k good.digits (leb-false oneDigit s.digits f) in
+      let none_here : k ≡ 0 = none_yet k good.digits (leb-false one_digit s.digits f) in
       let none-worth : v < 10 ^ 0 = rw none_here at good.digits.small in
       taken (negated s) k v b (record { words-few = good.words-few; digits = good.digits }) refl
       (ap₂ (λ n k. rest n k v (b ∷ first (words bs))) e none_here
@@ -228,61 +228,61 @@ module _ (bs : List ℕ) (ih : (s : State) (k v : ℕ) → Good s k v → finish
       ∙ ap (λ k. rest true k v (first (words bs))) (sym none_here))
 
   -- a digit
-  at-digit : (b : ℕ) (t : Bool) → isDigit b ≡ true → leb fourDigits s.digits ≡ t
-      → finished (steppedBy (cond t (refused s) (withDigit s (b - 48))) bs) ≡ lineFrom s k v (b ∷ first (words bs)) (others (words bs))
+  at-digit : (b : ℕ) (t : Bool) → is_digit b ≡ true → leb four_digits s.digits ≡ t
+      → finished (stepped_by (cond t (refused s) (with_digit s (b - 48))) bs) ≡ line_from s k v (b ∷ first (words bs)) (others (words bs))
   at-digit b true d e =
-      stopped (b ∷ first (words bs)) (others (words bs)) (rest-full (negative s) k v b (first (words bs)) good.digits.small (other_byte b 45 (omega arith) d) (full good.digits (leb-true fourDigits s.digits e)))
+      stopped (b ∷ first (words bs)) (others (words bs)) (rest-full (negative s) k v b (first (words bs)) good.digits.small (other_byte b 45 (omega arith) d) (full good.digits (leb-true four_digits s.digits e)))
   at-digit b false d e =
-      taken (withDigit s (b - 48)) (k + 1) (v * 10 + (b - 48)) b
-      (record { words-few = good.words-few; digits = more (b - 48) good.digits (room good.digits (leb-false fourDigits s.digits e)) (digit-worth b d) }) refl
+      taken (with_digit s (b - 48)) (k + 1) (v * 10 + (b - 48)) b
+      (record { words-few = good.words-few; digits = more (b - 48) good.digits (room good.digits (leb-false four_digits s.digits e)) (digit-worth b d) }) refl
       (rest-digit (negative s) k v b (first (words bs)) good.digits.small (other_byte b 45 (omega arith) d) d)
 
   -- no digit, and no space
-  at_other : (b : ℕ) (u : Bool) → isDigit b ≡ false → eqb b 45 ≡ u
-      → finished (steppedBy (cond u (minus s) (refused s)) bs) ≡ lineFrom s k v (b ∷ first (words bs)) (others (words bs))
-  at_other b true d e = at-minus b (negative s) (leb oneDigit s.digits) e refl refl
+  at_other : (b : ℕ) (u : Bool) → is_digit b ≡ false → eqb b 45 ≡ u
+      → finished (stepped_by (cond u (minus s) (refused s)) bs) ≡ line_from s k v (b ∷ first (words bs)) (others (words bs))
+  at_other b true d e = at-minus b (negative s) (leb one_digit s.digits) e refl refl
   at_other b false d e =
       stopped (b ∷ first (words bs)) (others (words bs)) (rest-other (negative s) k v b (first (words bs)) good.digits.small e d)
 
-  at-word : (b : ℕ) (d : Bool) → isDigit b ≡ d
-      → finished (steppedBy (cond d (digit s (b - 48)) (cond (eqb b 45) (minus s) (refused s))) bs) ≡ lineFrom s k v (b ∷ first (words bs)) (others (words bs))
-  at-word b true d = at-digit b (leb fourDigits s.digits) d refl
+  at-word : (b : ℕ) (d : Bool) → is_digit b ≡ d
+      → finished (stepped_by (cond d (digit s (b - 48)) (cond (eqb b 45) (minus s) (refused s))) bs) ≡ line_from s k v (b ∷ first (words bs)) (others (words bs))
+  at-word b true d = at-digit b (leb four_digits s.digits) d refl
   at-word b false d = at_other b (eqb b 45) d refl
 
   one_more : (b : ℕ) (t : Bool) → eqb b 32 ≡ t
-      → finished (steppedBy (cond (isDigit b) (digit s (b - 48)) (cond t (ended s) (cond (eqb b 45) (minus s) (refused s)))) bs)
-      ≡ lineFrom s k v (first (cond t ([] ∷ words bs) (onto b (words bs)))) (others (cond t ([] ∷ words bs) (onto b (words bs))))
+      → finished (stepped_by (cond (is_digit b) (digit s (b - 48)) (cond t (ended s) (cond (eqb b 45) (minus s) (refused s)))) bs)
+      ≡ line_from s k v (first (cond t ([] ∷ words bs) (onto b (words bs)))) (others (cond t ([] ∷ words bs) (onto b (words bs))))
   unfolding first others
   one_more b true e =
-      ap (λ b. finished (steppedBy (cond (isDigit b) (digit s (b - 48)) (ended s)) bs)) (eqb-true b 32 e)
-      ∙ at-space (ltb s.digits oneDigit) (leb 4 s.words) refl refl
+      ap (λ b. finished (stepped_by (cond (is_digit b) (digit s (b - 48)) (ended s)) bs)) (eqb-true b 32 e)
+      ∙ at-space (ltb s.digits one_digit) (leb 4 s.words) refl refl
   one_more b false e =
-      at-word b (isDigit b) refl ∙ ap₂ (lineFrom s k v) (sym (first-onto b (words bs))) (sym (others-onto b (words bs)))
+      at-word b (is_digit b) refl ∙ ap₂ (line_from s k v) (sym (first-onto b (words bs))) (sym (others-onto b (words bs)))
 
 -- ════ every byte
 module _ (s : State) (k v : ℕ) (good : Good s k v) where
-  whole : s.words ≡ 4 → 0 < k → lineFrom s k v [] [] ≡ Readings s.alpha s.beta s.xi s.eta (signed (negative s) v)
-  unfolding lineFrom line joined held
+  whole : s.words ≡ 4 → 0 < k → line_from s k v [] [] ≡ Readings s.alpha s.beta s.xi s.eta (signed (negative s) v)
+  unfolding line_from line joined held
   whole e h =
       ap₂ (λ n y. line (held n s.alpha s.beta s.xi s.eta) y []) e (rest_end (negative s) k v h good.digits.few)
 
-  few : (s.words ≡ 4 → ⊥) → lineFrom s k v [] [] ≡ Malformed
-  unfolding lineFrom
+  few : (s.words ≡ 4 → ⊥) → line_from s k v [] [] ≡ Malformed
+  unfolding line_from
   few h =
       line-few s.words s.alpha s.beta s.xi s.eta (rest (negative s) k v []) (below s.words good.words-few h)
 
-  no_more : (t u : Bool) → eqb s.words 4 ≡ t → ltb s.digits oneDigit ≡ u
-      → cond (not t) Malformed (cond u Malformed (Readings s.alpha s.beta s.xi s.eta (number_of s.minus s.digits))) ≡ lineFrom s k v [] []
+  no_more : (t u : Bool) → eqb s.words 4 ≡ t → ltb s.digits one_digit ≡ u
+      → cond (not t) Malformed (cond u Malformed (Readings s.alpha s.beta s.xi s.eta (number_of s.minus s.digits))) ≡ line_from s k v [] []
   no_more false u e f = sym (few (eqb-false s.words 4 e))
   no_more true true e f =
-      sym (spoilt s k v [] [] (ap (λ k. rest (negative s) k v []) (none_yet k good.digits (ltb-true s.digits oneDigit f)) ∙ rest-empty (negative s) v))
+      sym (spoilt s k v [] [] (ap (λ k. rest (negative s) k v []) (none_yet k good.digits (ltb-true s.digits one_digit f)) ∙ rest-empty (negative s) v))
   no_more true false e f =
       ap (λ n. Readings s.alpha s.beta s.xi s.eta (signed (negative s) n)) (value good.digits)
-      ∙ sym (whole (eqb-true s.words 4 e) (has-digit k good.digits (ltb-false s.digits oneDigit f)))
+      ∙ sym (whole (eqb-true s.words 4 e) (has-digit k good.digits (ltb-false s.digits one_digit f)))
 
-from : (bs : List ℕ) (s : State) (k v : ℕ) → Good s k v → finished (steppedBy s bs) ≡ lineFrom s k v (first (words bs)) (others (words bs))
+from : (bs : List ℕ) (s : State) (k v : ℕ) → Good s k v → finished (stepped_by s bs) ≡ line_from s k v (first (words bs)) (others (words bs))
 unfolding first others
-from [] s k v good = no_more s k v good (eqb s.words 4) (ltb s.digits oneDigit) refl refl
+from [] s k v good = no_more s k v good (eqb s.words 4) (ltb s.digits one_digit) refl refl
 from (b ∷ bs) s k v good = one_more bs (from bs) s k v good b (eqb b 32) refl
 
 start-good : Good start 0 0
@@ -293,9 +293,9 @@ unfolding joined
 joined-none none = refl
 joined-none (some xs) = refl
 
-pub parsed : (bs : List ℕ) → finished (steppedBy start bs) ≡ parse bs
-unfolding parse lineFrom line held
+pub parsed : (bs : List ℕ) → finished (stepped_by start bs) ≡ parse bs
+unfolding parse line_from line held
 parsed bs =
     from bs start 0 0 start-good
-    ∙ ap five (joined-none (allNumbers (map number (first (words bs) ∷ others (words bs)))))
-    ∙ ap (λ ws. five (allNumbers (map number ws))) (sym (has_first bs))
+    ∙ ap five (joined-none (all_numbers (map number (first (words bs) ∷ others (words bs)))))
+    ∙ ap (λ ws. five (all_numbers (map number ws))) (sym (has_first bs))

@@ -14,7 +14,7 @@ use borrow.Author.Tests.{le-leb, lt-leb, eqb-true}
 use lib.Dec.{leb, eqb}
 use lib.IntN.{ℤ}
 use lib.ListN.{length}
-use Rattle.lines.specs.Line.{isDigit, allDigits, digitsValue, signed, unsigned, number}
+use Rattle.lines.specs.Line.{is_digit, all_digits, digits_value, signed, unsigned, number}
 
 -- n digits in all, of which those to come are good
 abbrev counted : Bool → ℕ → Bool
@@ -22,7 +22,7 @@ counted good n = good && (leb 1 n && leb n 4)
 
 -- behind a sign and k digits
 abbrev more : Bool → ℕ → ℕ → List ℕ → Option ℤ
-more negative k v bs = cond (counted (allDigits bs) (k + length bs)) (some (signed negative (digitsValue v bs))) none
+more negative k v bs = cond (counted (all_digits bs) (k + length bs)) (some (signed negative (digits_value v bs))) none
 
 -- a minus is taken where the word is empty
 abbrev pub rest : Bool → ℕ → ℕ → List ℕ → Option ℤ
@@ -35,22 +35,22 @@ and-false : (b : Bool) → b && false ≡ false
 and-false true = refl
 and-false false = refl
 
-more-digit : (negative : Bool) (k v b : ℕ) (bs : List ℕ) → isDigit b ≡ true → more negative k v (b ∷ bs) ≡ more negative (k + 1) (v * 10 + (b - 48)) bs
+more-digit : (negative : Bool) (k v b : ℕ) (bs : List ℕ) → is_digit b ≡ true → more negative k v (b ∷ bs) ≡ more negative (k + 1) (v * 10 + (b - 48)) bs
 more-digit negative k v b bs e =
     let n : k + suc (length bs) ≡ k + 1 + length bs = omega arith in
-    ap (λ t. cond (counted (t && allDigits bs) (k + suc (length bs))) (some (signed negative (digitsValue v (b ∷ bs)))) none) e
-    ∙ ap (λ n. cond (counted (allDigits bs) n) (some (signed negative (digitsValue v (b ∷ bs)))) none) n
+    ap (λ t. cond (counted (t && all_digits bs) (k + suc (length bs))) (some (signed negative (digits_value v (b ∷ bs)))) none) e
+    ∙ ap (λ n. cond (counted (all_digits bs) n) (some (signed negative (digits_value v (b ∷ bs)))) none) n
 
 more-full : (negative : Bool) (k v b : ℕ) (bs : List ℕ) → 4 ≤ k → more negative k v (b ∷ bs) ≡ none
 more-full negative k v b bs h =
     let past : leb (k + suc (length bs)) 4 ≡ false = lt-leb (k + suc (length bs)) 4 (omega arith) in
-    ap (λ t. cond (allDigits (b ∷ bs) && (leb 1 (k + suc (length bs)) && t)) (some (signed negative (digitsValue v (b ∷ bs)))) none) past
-    ∙ ap (λ t. cond (allDigits (b ∷ bs) && t) (some (signed negative (digitsValue v (b ∷ bs)))) none) (and-false (leb 1 (k + suc (length bs))))
-    ∙ ap (λ t. cond t (some (signed negative (digitsValue v (b ∷ bs)))) none) (and-false (allDigits (b ∷ bs)))
+    ap (λ t. cond (all_digits (b ∷ bs) && (leb 1 (k + suc (length bs)) && t)) (some (signed negative (digits_value v (b ∷ bs)))) none) past
+    ∙ ap (λ t. cond (all_digits (b ∷ bs) && t) (some (signed negative (digits_value v (b ∷ bs)))) none) (and-false (leb 1 (k + suc (length bs))))
+    ∙ ap (λ t. cond t (some (signed negative (digits_value v (b ∷ bs)))) none) (and-false (all_digits (b ∷ bs)))
 
-more-other : (negative : Bool) (k v b : ℕ) (bs : List ℕ) → isDigit b ≡ false → more negative k v (b ∷ bs) ≡ none
+more-other : (negative : Bool) (k v b : ℕ) (bs : List ℕ) → is_digit b ≡ false → more negative k v (b ∷ bs) ≡ none
 more-other negative k v b bs e =
-    ap (λ t. cond (counted (t && allDigits bs) (k + suc (length bs))) (some (signed negative (digitsValue v (b ∷ bs)))) none) e
+    ap (λ t. cond (counted (t && all_digits bs) (k + suc (length bs))) (some (signed negative (digits_value v (b ∷ bs)))) none) e
 
 more-end : (negative : Bool) (k v : ℕ) → 0 < k → k ≤ 4 → more negative k v [] ≡ some (signed negative v)
 more-end negative k v h l =
@@ -61,7 +61,7 @@ more-end negative k v h l =
 -- ════ a word as the paper has it
 from-none : (negative : Bool) (bs : List ℕ) → unsigned negative bs ≡ more negative 0 0 bs
 from-none negative bs =
-    ap (λ n. cond (counted (allDigits bs) n) (some (signed negative (digitsValue 0 bs))) none) (sym (zero-add (length bs)))
+    ap (λ n. cond (counted (all_digits bs) n) (some (signed negative (digits_value 0 bs))) none) (sym (zero-add (length bs)))
 
 number-minus : (b : ℕ) (bs : List ℕ) → eqb b 45 ≡ true → number (b ∷ bs) ≡ more true 0 0 bs
 number-minus b bs e = ap (λ t. cond t (unsigned true bs) (unsigned false (b ∷ bs))) e ∙ from-none true bs
@@ -84,7 +84,7 @@ rest-begun false (suc k) v bs h = refl
 rest-begun true k v bs h = refl
 
 module _ (negative : Bool) (k v b : ℕ) (bs : List ℕ) where
-  pub rest-digit : v < 10 ^ k → eqb b 45 ≡ false → isDigit b ≡ true → rest negative k v (b ∷ bs) ≡ rest negative (k + 1) (v * 10 + (b - 48)) bs
+  pub rest-digit : v < 10 ^ k → eqb b 45 ≡ false → is_digit b ≡ true → rest negative k v (b ∷ bs) ≡ rest negative (k + 1) (v * 10 + (b - 48)) bs
   rest-digit h e d =
       rest_plain negative k v b bs h e
       ∙ more-digit negative k v b bs d
@@ -93,15 +93,15 @@ module _ (negative : Bool) (k v b : ℕ) (bs : List ℕ) where
   pub rest-full : v < 10 ^ k → eqb b 45 ≡ false → 4 ≤ k → rest negative k v (b ∷ bs) ≡ none
   rest-full h e l = rest_plain negative k v b bs h e ∙ more-full negative k v b bs l
 
-  pub rest-other : v < 10 ^ k → eqb b 45 ≡ false → isDigit b ≡ false → rest negative k v (b ∷ bs) ≡ none
+  pub rest-other : v < 10 ^ k → eqb b 45 ≡ false → is_digit b ≡ false → rest negative k v (b ∷ bs) ≡ none
   rest-other h e d = rest_plain negative k v b bs h e ∙ more-other negative k v b bs d
 
 pub rest-minus : (v b : ℕ) (bs : List ℕ) → v < 10 ^ 0 → eqb b 45 ≡ true → rest false 0 v (b ∷ bs) ≡ rest true 0 v bs
 rest-minus v b bs h e = number-minus b bs e ∙ ap (λ u. more true 0 u bs) (no_value h)
 
 -- a minus behind a minus, or behind a digit
-no_digit : (b : ℕ) → eqb b 45 ≡ true → isDigit b ≡ false
-no_digit b e = ap isDigit (eqb-true b 45 e)
+no_digit : (b : ℕ) → eqb b 45 ≡ true → is_digit b ≡ false
+no_digit b e = ap is_digit (eqb-true b 45 e)
 
 pub rest-twice : (k v b : ℕ) (bs : List ℕ) → eqb b 45 ≡ true → rest true k v (b ∷ bs) ≡ none
 rest-twice k v b bs e = more-other true k v b bs (no_digit b e)

@@ -18,17 +18,17 @@ words [] = [] ∷ []
 words (b ∷ bs) = before b (words bs)
 
 -- ════ numbers
-abbrev pub isDigit : ℕ → Bool
-isDigit b = leb 48 b && leb b 57
+abbrev pub is_digit : ℕ → Bool
+is_digit b = leb 48 b && leb b 57
 
-abbrev pub allDigits : List ℕ → Bool
-allDigits [] = true
-allDigits (b ∷ bs) = isDigit b && allDigits bs
+abbrev pub all_digits : List ℕ → Bool
+all_digits [] = true
+all_digits (b ∷ bs) = is_digit b && all_digits bs
 
 -- the value of digits that follow those of v
-abbrev pub digitsValue : ℕ → List ℕ → ℕ
-digitsValue v [] = v
-digitsValue v (b ∷ bs) = digitsValue (v * 10 + (b - 48)) bs
+abbrev pub digits_value : ℕ → List ℕ → ℕ
+digits_value v [] = v
+digits_value v (b ∷ bs) = digits_value (v * 10 + (b - 48)) bs
 
 abbrev pub signed : Bool → ℕ → ℤ
 signed negative n = cond negative (neg_ℤ (pos n)) (pos n)
@@ -36,7 +36,7 @@ signed negative n = cond negative (neg_ℤ (pos n)) (pos n)
 -- one to four digits and nothing else, behind the minus where there is one
 abbrev pub unsigned : Bool → List ℕ → Option ℤ
 unsigned negative bs =
-    cond (allDigits bs && (leb 1 (length bs) && leb (length bs) 4)) (some (signed negative (digitsValue 0 bs))) none
+    cond (all_digits bs && (leb 1 (length bs) && leb (length bs) 4)) (some (signed negative (digits_value 0 bs))) none
 
 abbrev pub number : List ℕ → Option ℤ
 number [] = none
@@ -49,9 +49,9 @@ with (some x) none = none
 with (some x) (some xs) = some (x ∷ xs)
 
 -- all the numbers, where every word is one
-abbrev pub allNumbers : List (Option ℤ) → Option (List ℤ)
-allNumbers [] = some []
-allNumbers (x ∷ xs) = with x (allNumbers xs)
+abbrev pub all_numbers : List (Option ℤ) → Option (List ℤ)
+all_numbers [] = some []
+all_numbers (x ∷ xs) = with x (all_numbers xs)
 
 abbrev pub five : Option (List ℤ) → Line
 five none = Malformed
@@ -59,4 +59,4 @@ five (some xs) =
     cond (eqb (length xs) 5) (Readings (get_or xs 0 (pos 0)) (get_or xs 1 (pos 0)) (get_or xs 2 (pos 0)) (get_or xs 3 (pos 0)) (get_or xs 4 (pos 0))) Malformed
 
 unfoldable pub parse : List ℕ → Line
-parse bytes = five (allNumbers (map number (words bytes)))
+parse bytes = five (all_numbers (map number (words bytes)))

@@ -7,18 +7,18 @@ use Prim.Native.Nat.{ℕ, zero, suc, ◌+◌, ◌-◌, ◌*◌, ◌≤◌, ◌<�
 use native.Mathlib.Nat as N
 use native.Mathlib.Omega.{arith}
 use lib.IntN.{ℤ, nat_abs, ◌+ℤ◌, ◌*ℤ◌}
-use Rattle.whole.proofs.Magnitudes.{natAbs-+, natAbs-*}
+use Rattle.whole.proofs.Magnitudes.{nat_abs-+, nat_abs-*}
 use Rattle.whole.proofs.Nearest.{nearest-size}
 use Rattle.polynomials.specs.Numbers.{ints}
 use Rattle.polynomials.specs.Order.{place}
 use Rattle.polynomials.specs.Group.{number}
-use Rattle.polynomials.specs.Downward.{down, rowDownward}
+use Rattle.polynomials.specs.Downward.{down, row_downward}
 use Rattle.cumulus_page.specs.Model.{microradians}
 use Rattle.microradians.specs.Fixed.{◌⊛◌}
 use Rattle.microradians.specs.Ready.{largest, most, Placed, Near}
 
 pub times-size : (a r : ℤ) → Near r → nat_abs (a ⊛ r) ≤ nat_abs a
-times-size a r h = nearest-size microradians.radian (omega arith) (a *ℤ r) (nat_abs a) (omega (arith, natAbs-* a r, N.mul-le-mul_left (nat_abs a) h))
+times-size a r h = nearest-size microradians.radian (omega arith) (a *ℤ r) (nat_abs a) (omega (arith, nat_abs-* a r, N.mul-le-mul_left (nat_abs a) h))
 
 module _ (g : ℕ → ℤ) (r : ℤ) (b : ℕ) (h : (k : ℕ) → nat_abs (g k) ≤ b) (hr : Near r) where
   down-size : (k p : ℕ) → nat_abs (down ints ◌⊛◌ g r k p) ≤ suc k * b
@@ -26,7 +26,7 @@ module _ (g : ℕ → ℤ) (r : ℤ) (b : ℕ) (h : (k : ℕ) → nat_abs (g k) 
   down-size zero p = omega (arith, h p)
   down-size (suc k) p =
       let d = down ints ◌⊛◌ g r k (suc p) in
-      omega (arith, natAbs-+ (d ⊛ r) (g p), times-size d r hr, down-size k (suc p), h p, N.suc-mul (suc k) b)
+      omega (arith, nat_abs-+ (d ⊛ r) (g p), times-size d r hr, down-size k (suc p), h p, N.suc-mul (suc k) b)
 
   five : (k p : ℕ) → k ≤ 4 → nat_abs (down ints ◌⊛◌ g r k p) ≤ 5 * b
   five k p l = N.le_trans (down-size k p) (N.mul-le-mul_right b ((N.suc-le-suc_iff).1 l))
@@ -42,6 +42,6 @@ module _ {l : List ℤ} {degree : ℕ} (placed : Placed l degree) (x y : ℤ) (h
   pub row-size : (q k p : ℕ) → k ≤ degree → nat_abs (down ints ◌⊛◌ (λ i. number ints l i q) x k p) ≤ most
   row-size q k p h = omega (arith, row-five q k p h)
 
-  pub group-size : (k q : ℕ) → k ≤ degree → nat_abs (down ints ◌⊛◌ (rowDownward ints ◌⊛◌ degree (number ints l) x) y k q) ≤ most
+  pub group-size : (k q : ℕ) → k ≤ degree → nat_abs (down ints ◌⊛◌ (row_downward ints ◌⊛◌ degree (number ints l) x) y k q) ≤ most
   group-size k q h =
-      five (rowDownward ints ◌⊛◌ degree (number ints l) x) y (5 * largest) (λ q. row-five q (degree - q) 0 (omega arith)) hy k q (omega (arith, placed.low))
+      five (row_downward ints ◌⊛◌ degree (number ints l) x) y (5 * largest) (λ q. row-five q (degree - q) 0 (omega arith)) hy k q (omega (arith, placed.low))

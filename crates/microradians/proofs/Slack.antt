@@ -12,12 +12,12 @@ use native.Mathlib.Omega.{arith}
 use borrow.Author.Tests.{eqb-true}
 use lib.Dec.{eqb}
 use lib.IntN.{ℤ, pos, nat_abs, ◌+ℤ◌, ◌*ℤ◌, +ℤ_idr}
-use Rattle.whole.proofs.Magnitudes.{natAbs-zero}
+use Rattle.whole.proofs.Magnitudes.{nat_abs-zero}
 use Rattle.polynomials.specs.Numbers.{ints}
-use Rattle.polynomials.specs.Downward.{down, rowDownward, downward}
+use Rattle.polynomials.specs.Downward.{down, row_downward, downward}
 use Rattle.polynomials.proofs.Semiring.{whole, nil-mul}
 use Rattle.laws.proofs.Tests.{&&-left, &&-right}
-use Rattle.microradians.specs.Fixed.{perPrinted, ◌⊛◌}
+use Rattle.microradians.specs.Fixed.{per_printed, ◌⊛◌}
 use Rattle.microradians.proofs.Off.{M, Off, off-exact, off-+, off-times, off_nil, nil-times}
 
 -- ════ one variable
@@ -71,25 +71,25 @@ module _ (f : ℕ → ℕ → ℤ) (d D : ℕ) where
   abbrev pub row-silent : ℕ → Bool
   row-silent q = silent (zero-at q) (d - q) 0
 
-  abbrev pub rowSlack : ℕ → ℕ → ℕ
-  rowSlack R q = slack R (D - q) (zero-at q) (λ p. 0) (d - q) 0
+  abbrev pub row_slack : ℕ → ℕ → ℕ
+  row_slack R q = slack R (D - q) (zero-at q) (λ p. 0) (d - q) 0
 
-  abbrev pub groupSlack : ℕ → ℕ → ℕ
-  groupSlack R T = slack T D row-silent (rowSlack R) d 0
+  abbrev pub group_slack : ℕ → ℕ → ℕ
+  group_slack R T = slack T D row-silent (row_slack R) d 0
 
   abbrev pub nanos : ℕ → ℕ → ℤ
-  nanos p q = f p q *ℤ pos perPrinted
+  nanos p q = f p q *ℤ pos per_printed
 
   abbrev pub exactly : ℕ → ℕ → ℤ
   exactly p q = f p q *ℤ pos (M ^ (D - (p + q)))
 
   nil-at : (q p : ℕ) → zero-at q p ≡ true → (nanos p q ≡ pos 0) × (exactly p q ≡ pos 0)
   nil-at q p e =
-      let z = natAbs-zero (f p q) (eqb-true (nat_abs (f p q)) 0 e) in
-      (ap (λ a. a *ℤ pos perPrinted) z, ap (λ a. a *ℤ pos (M ^ (D - (p + q)))) z ∙ nil-mul whole (pos (M ^ (D - (p + q)))))
+      let z = nat_abs-zero (f p q) (eqb-true (nat_abs (f p q)) 0 e) in
+      (ap (λ a. a *ℤ pos per_printed) z, ap (λ a. a *ℤ pos (M ^ (D - (p + q)))) z ∙ nil-mul whole (pos (M ^ (D - (p + q)))))
 
   module _ (x y : ℤ) (R T : ℕ) (hx : nat_abs x ≤ R) (hy : nat_abs y ≤ T) (b : d ≤ D) where
-    row-nil : (q : ℕ) → row-silent q ≡ true → (rowDownward ints ◌⊛◌ d nanos x q ≡ pos 0) × (rowDownward ints ◌*ℤ◌ d exactly x q ≡ pos 0)
+    row-nil : (q : ℕ) → row-silent q ≡ true → (row_downward ints ◌⊛◌ d nanos x q ≡ pos 0) × (row_downward ints ◌*ℤ◌ d exactly x q ≡ pos 0)
     row-nil q s = (
       silent-nil ◌⊛◌ (λ p. nanos p q) x (zero-at q) (nil-times x) (λ p e. (nil-at q p e).0) (d - q) 0 s,
       silent-nil ◌*ℤ◌ (λ p. exactly p q) x (zero-at q) (nil-mul whole x) (λ p e. (nil-at q p e).1) (d - q) 0 s,
@@ -98,15 +98,15 @@ module _ (f : ℕ → ℕ → ℤ) (d D : ℕ) where
     number-off : (q p : ℕ) → Off (M ^ (D - q - p)) 0 (nanos p q) (exactly p q)
     number-off q p = let e : D - q - p ≡ D - (p + q) = omega arith in rw e (off-exact (M ^ (D - (p + q))) (f p q))
 
-    row-off : (q : ℕ) → q ≤ d → Off (M ^ (D - q)) (rowSlack R q) (rowDownward ints ◌⊛◌ d nanos x q) (rowDownward ints ◌*ℤ◌ d exactly x q)
+    row-off : (q : ℕ) → q ≤ d → Off (M ^ (D - q)) (row_slack R q) (row_downward ints ◌⊛◌ d nanos x q) (row_downward ints ◌*ℤ◌ d exactly x q)
     row-off q l =
         rw (N.sub-zero (D - q)) at
         (down-off (λ p. nanos p q) (λ p. exactly p q) (λ p. 0) (zero-at q) (d - q) (D - q) (omega arith) (λ p m. number-off q p) (λ p e. nil-at q p e) x R hx (d - q) 0 (N.add-zero (d - q)))
 
-    pub downward-off : Off (M ^ D) (groupSlack R T) (downward ints ◌⊛◌ d nanos x y) (downward ints ◌*ℤ◌ d exactly x y)
+    pub downward-off : Off (M ^ D) (group_slack R T) (downward ints ◌⊛◌ d nanos x y) (downward ints ◌*ℤ◌ d exactly x y)
     downward-off =
         rw (N.sub-zero D) at
-        (down-off (rowDownward ints ◌⊛◌ d nanos x) (rowDownward ints ◌*ℤ◌ d exactly x) (rowSlack R) row-silent d D b row-off row-nil y T hy d 0 (N.add-zero d))
+        (down-off (row_downward ints ◌⊛◌ d nanos x) (row_downward ints ◌*ℤ◌ d exactly x) (row_slack R) row-silent d D b row-off row-nil y T hy d 0 (N.add-zero d))
 
 -- ════ counted
 -- where the number at p has n p products of its own
@@ -142,10 +142,10 @@ none_left zero p = refl
 none_left (suc k) p = omega (arith, none_left k (suc p))
 
 module _ (f : ℕ → ℕ → ℤ) (d D R T : ℕ) (hR : R ≤ M) (hT : T ≤ M) (b : d ≤ D) where
-  row-counted : (q : ℕ) → q ≤ d → rowSlack f d D R q ≤ (d - q) * M ^ (D - q)
+  row-counted : (q : ℕ) → q ≤ d → row_slack f d D R q ≤ (d - q) * M ^ (D - q)
   row-counted q l =
       rw (none_left (d - q) 0, N.sub-zero (D - q)) at
       (slack-counted R (D - q) (d - q) (zero-at f d D q) (λ p. 0) (λ p. 0) hR (omega arith) (λ p m. omega arith) (d - q) 0 (N.add-zero (d - q)))
 
-  pub counted : groupSlack f d D R T ≤ multiplications d * M ^ D
-  counted = rw (N.sub-zero D) at (slack-counted T D d (row-silent f d D) (rowSlack f d D R) (λ q. d - q) hT b row-counted d 0 (N.add-zero d))
+  pub counted : group_slack f d D R T ≤ multiplications d * M ^ D
+  counted = rw (N.sub-zero D) at (slack-counted T D d (row-silent f d D) (row_slack f d D R) (λ q. d - q) hT b row-counted d 0 (N.add-zero d))

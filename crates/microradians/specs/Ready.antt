@@ -1,6 +1,6 @@
 -- What the code asks of its callers: numbers that are small enough, and readings of at most a radian.
 use Rattle.std.specs.Prelude.{List, ℕ, ◌*◌, ◌≤◌, ◌<◌, ℤ, pos, nat_abs, get_or}
-use Rattle.polynomials.specs.Limits.{highestDegree}
+use Rattle.polynomials.specs.Limits.{highest_degree}
 use Rattle.layout.specs.Shape.{cumulus}
 use Rattle.cumulus_page.specs.Model.{microradians}
 
@@ -14,7 +14,7 @@ most = 5 * (5 * largest)
 
 -- the numbers of a group of that degree, small enough
 pub record Placed (l : List ℤ) (degree : ℕ) : Type 0 where
-  pub low : degree ≤ highestDegree
+  pub low : degree ≤ highest_degree
   pub small : (k : ℕ) → nat_abs (get_or l k (pos 0)) ≤ largest
 
 -- at most a radian

@@ -5,13 +5,13 @@ ghost use Rattle.std.specs.Prelude.{◌≡◌, ◌<◌, ◌≤◌, nat_abs, leng
 ghost use Rattle.polynomials.specs.Numbers.{ints};
 ghost use Rattle.polynomials.specs.Sum.{listed};
 ghost use Rattle.polynomials.specs.Group.{number};
-ghost use Rattle.polynomials.specs.Downward.{rowDownward, downward};
+ghost use Rattle.polynomials.specs.Downward.{row_downward, downward};
 ghost use Rattle.layout.specs.Shape.{cumulus};
 ghost use Rattle.layout.specs.Blocks.{piece as piece_of};
 ghost use Rattle.layout.specs.Reading.{readings};
-ghost use Rattle.cumulus_page.specs.Model.{coefficientAt};
+ghost use Rattle.cumulus_page.specs.Model.{coefficient_at};
 ghost use Rattle.microradians.specs.Fixed.{◌⊛◌};
-ghost use Rattle.microradians.specs.Answer.{answer_in, fineNumber, fineOutput};
+ghost use Rattle.microradians.specs.Answer.{answer_in, fine_number, fine_output};
 ghost use Rattle.microradians.specs.Ready.{most, Placed, Near, AllNear};
 
 use cumulus::PUBLISHED;
@@ -60,7 +60,7 @@ fn times(a: i64, r: i64) -> i64
 // The numbers beside the power q of the second variable, from the highest power of the first down.
 fn row_at(group: &[i64], degree: usize, q: usize, x: i64) -> i64
     requires { Placed group.now degree × ((q ≤ degree) × Near x) }
-    ensures { result ≡ rowDownward ints ◌⊛◌ degree (number ints group.now) x q }
+    ensures { result ≡ row_downward ints ◌⊛◌ degree (number ints group.now) x q }
 {
     let mut p = degree - q;
     let mut row = number_at(group, p, q);
@@ -88,7 +88,7 @@ fn group_at(group: &[i64], degree: usize, x: i64, y: i64) -> i64
 // A coefficient, by its block, in the low piece (0) or the high one.
 fn coefficient_at(block: usize, piece: usize, state: [i64; VARIABLES]) -> i64
     requires { (block < cumulus.blocks) × ((piece < 2) × AllNear (readings state)) }
-    ensures { result ≡ answer_in (piece_of piece) (coefficientAt block) (readings state) }
+    ensures { result ≡ answer_in (piece_of piece) (coefficient_at block) (readings state) }
 {
     let first = GROUPS * block;
     let pitch = numbers_of(first + piece);
@@ -102,7 +102,7 @@ fn coefficient_at(block: usize, piece: usize, state: [i64; VARIABLES]) -> i64
 // Every coefficient at the state, in the low piece (0) or the high one.
 fn write_answers(piece: usize, state: [i64; VARIABLES], out: &mut [i64])
     requires { (piece < 2) × (AllNear (readings state) × (length out.old ≡ cumulus.blocks)) }
-    ensures { out.new ≡ listed cumulus.blocks (λ b. answer_in (piece_of piece) (coefficientAt b) (readings state)) }
+    ensures { out.new ≡ listed cumulus.blocks (λ b. answer_in (piece_of piece) (coefficient_at b) (readings state)) }
 {
     let mut block: usize = 0;
     while block < BLOCKS {
@@ -115,8 +115,8 @@ fn write_answers(piece: usize, state: [i64; VARIABLES], out: &mut [i64])
 // Reads the six coefficients of the published table at a state of five whole microradians into `out`, in units of 10^-9, or refuses and leaves `out`
 // as it was.
 pub fn read(state: [i64; VARIABLES], out: &mut [i64]) -> u64
-    ensures number { result ≡ fineNumber (readings state) out.old }
-    ensures output { out.new ≡ fineOutput (readings state) out.old }
+    ensures number { result ≡ fine_number (readings state) out.old }
+    ensures output { out.new ≡ fine_output (readings state) out.old }
 {
     if out.len() != BLOCKS {
         return WRONG_OUTPUT;

@@ -2,7 +2,7 @@
 // has room for degree 4; in those of degree 3 the last five are 0.
 ghost use Rattle.std.specs.Prelude.{◌≡◌, ◌*◌, ◌<◌};
 ghost use Rattle.layout.specs.Shape.{cumulus};
-ghost use Rattle.microradians.specs.Groups.{groupCount, fineGroup};
+ghost use Rattle.microradians.specs.Groups.{group_count, fine_group};
 
 use cumulus::PUBLISHED;
 use layout::cumulus_one::{LIMITS, SIDE};
@@ -455,8 +455,8 @@ const N_ZETA: [i64; SIDE] = [
 
 // The numbers of a group, the groups counted through all blocks.
 pub fn numbers_of(group: usize) -> [i64; SIDE]
-    requires { group < groupCount * cumulus.blocks }
-    ensures { result ≡ fineGroup group }
+    requires { group < group_count * cumulus.blocks }
+    ensures { result ≡ fine_group group }
 {
     match group {
         0 => X_LOW,

@@ -1,13 +1,13 @@
 // Moving the datum of one variable of a table.
 ghost use Rattle.std.specs.Prelude.{◌≡◌, true, [], ◌∷◌, ◌++◌, ◌+◌, ◌-◌, ◌^◌, ◌<◌, ◌≤◌, length, take, drop, get_or};
 ghost use Rattle.polynomials.specs.Sum.{listed};
-ghost use Rattle.layout.specs.Shape.{shape, limitsLength, tableLength};
-ghost use Rattle.layout.specs.Numbers.{limitsRoom, reachesRoom};
-ghost use Rattle.layout.specs.Moving.{movedTable, moveNumber, moveOutput};
+ghost use Rattle.layout.specs.Shape.{shape, limits_length, table_length};
+ghost use Rattle.layout.specs.Numbers.{limits_room, reaches_room};
+ghost use Rattle.layout.specs.Moving.{moved_table, move_number, move_output};
 ghost use Rattle.layout.specs.Accepted.{MoveAccepted};
 ghost use Rattle.layout.specs.Refusals.{first, ◌when◌};
 ghost use Rattle.tables.specs.Ready.{unsound};
-ghost use Rattle.moving.specs.Ready.{longerAt, Lengthened, HoldsMoved, Movable, moveOwn};
+ghost use Rattle.moving.specs.Ready.{longer_at, Lengthened, HoldsMoved, Movable, move_own};
 
 use blocks::move_block;
 use layout::refusals::{
@@ -34,8 +34,8 @@ fn owner(place: usize) -> usize
 
 // The reach at a place of the list, longer by `more` where it is the variable's.
 fn longer_at(reaches: [u64; REACHES_ROOM], place: usize, variable: usize, more: u64) -> u64
-    requires { (place < reachesRoom) × (place - 1 ≡ variable → get_or reaches place 0 + more < 2 ^ 64) }
-    ensures { result ≡ longerAt reaches variable more place }
+    requires { (place < reaches_room) × (place - 1 ≡ variable → get_or reaches place 0 + more < 2 ^ 64) }
+    ensures { result ≡ longer_at reaches variable more place }
 {
     let reach = reaches[place];
     if owner(place) == variable {
@@ -47,7 +47,7 @@ fn longer_at(reaches: [u64; REACHES_ROOM], place: usize, variable: usize, more: 
 // The reaches with each of one variable longer by `more`.
 fn longer(reaches: [u64; REACHES_ROOM], variable: usize, more: u64) -> [u64; REACHES_ROOM]
     requires { Lengthened reaches variable more }
-    ensures { result ≡ listed reachesRoom (longerAt reaches variable more) }
+    ensures { result ≡ listed reaches_room (longer_at reaches variable more) }
 {
     let mut longer: [u64; REACHES_ROOM] = [0; REACHES_ROOM];
     let mut k: usize = 0;
@@ -61,8 +61,8 @@ fn longer(reaches: [u64; REACHES_ROOM], variable: usize, more: u64) -> [u64; REA
 
 // The limits, written where an output has them.
 fn write_limits(limits: Limits, out: &mut [i64])
-    requires { (length limits.numbers ≡ limitsRoom) × (limitsRoom ≤ length out.old) }
-    ensures { out.new ≡ take (limitsLength (shape limits.model)) limits.numbers ++ drop (limitsLength (shape limits.model)) out.old }
+    requires { (length limits.numbers ≡ limits_room) × (limits_room ≤ length out.old) }
+    ensures { out.new ≡ take (limits_length (shape limits.model)) limits.numbers ++ drop (limits_length (shape limits.model)) out.old }
 {
     let numbers = limits.numbers;
     let model = limits.model;
@@ -79,7 +79,7 @@ fn write_limits(limits: Limits, out: &mut [i64])
 // A move keeps the order of the limits, so that the moved ones are good where they are in range.
 fn refusal(model: Model, table: &[i64], moved: Limits, variable: usize, shift: i64) -> u64
     requires { Movable model table.now variable shift moved }
-    ensures { result ≡ first (moveOwn (shape model) table.now variable shift) }
+    ensures { result ≡ first (move_own (shape model) table.now variable shift) }
 {
     if !moved.good() {
         return LIMIT_PAST;
@@ -93,7 +93,7 @@ fn refusal(model: Model, table: &[i64], moved: Limits, variable: usize, shift: i
 
 // The refusal of a table that is not sound, which comes before any other of the move.
 fn unless_unsound(model: Model, table: &[i64], refused: u64) -> u64
-    requires { length table.now ≡ tableLength (shape model) }
+    requires { length table.now ≡ table_length (shape model) }
     ensures { result ≡ first (unsound (shape model) table.now ++ (refused when true) ∷ []) }
 {
     let unsound = soundness(model, table);
@@ -113,7 +113,7 @@ fn write_moved(
     out: &mut [i64],
 )
     requires { MoveAccepted (shape model) table.now variable shift out.old × HoldsMoved model table.now variable shift moved }
-    ensures { out.new ≡ movedTable (shape model) variable shift table.now }
+    ensures { out.new ≡ moved_table (shape model) variable shift table.now }
 {
     write_limits(moved, out);
     let rows = multiplied_out(shift);
@@ -137,9 +137,9 @@ fn write_moved(
 // Moves a variable of a table into an output as long. The weights are worked out once: those of the weight rule are no less than the table's own, which
 // are worked out only where the move is refused.
 fn move_whole(model: Model, table: &[i64], variable: usize, shift: i64, out: &mut [i64]) -> u64
-    requires { (length table.now ≡ tableLength (shape model)) × ((length out.old ≡ tableLength (shape model)) × (variable < (shape model).variables)) }
-    ensures number { result ≡ moveNumber (shape model) table.now variable shift out.old }
-    ensures output { out.new ≡ moveOutput (shape model) table.now variable shift out.old }
+    requires { (length table.now ≡ table_length (shape model)) × ((length out.old ≡ table_length (shape model)) × (variable < (shape model).variables)) }
+    ensures number { result ≡ move_number (shape model) table.now variable shift out.old }
+    ensures output { out.new ≡ move_output (shape model) table.now variable shift out.old }
 {
     let limits = Limits::of(model, table);
     if !limits.good() {
@@ -160,8 +160,8 @@ fn move_whole(model: Model, table: &[i64], variable: usize, shift: i64, out: &mu
 // Writes the table with the zero of one variable moved by `shift` into `out`, or refuses and leaves `out` as it was. The moved
 // table answers at a reading less `shift` what this one answers at the reading.
 pub fn move_datum(model: Model, table: &[i64], variable: usize, shift: i64, out: &mut [i64]) -> u64
-    ensures number { result ≡ moveNumber (shape model) table.now variable shift out.old }
-    ensures output { out.new ≡ moveOutput (shape model) table.now variable shift out.old }
+    ensures number { result ≡ move_number (shape model) table.now variable shift out.old }
+    ensures output { out.new ≡ move_output (shape model) table.now variable shift out.old }
 {
     if table.len() != shapes::table(model) {
         return WRONG_TABLE;

@@ -1,6 +1,6 @@
 -- What the code finds on its way to the number of a word. That it leads to what `Numbers` says is shown in `proofs/`.
 use Rattle.std.specs.Prelude.{cond, ℕ, ◌+◌, ◌*◌, ◌≤◌, leb}
-use Rattle.numbers.specs.Numbers.{digitOf, said, unsaid}
+use Rattle.numbers.specs.Numbers.{digit_of, said, unsaid}
 use Rattle.numbers.specs.declared.Number.{Number}
 
 -- a base and a limit that leave room for a digit
@@ -15,5 +15,5 @@ extended base limit value digit =
     cond (leb base digit) unsaid (cond (leb (value * base + digit) limit) (said (value * base + digit)) unsaid)
 
 -- one byte more
-abbrev pub withByte : ℕ → ℕ → Number → ℕ → Number
-withByte base limit past b = cond past.said (extended base limit past.value (digitOf b)) past
+abbrev pub with_byte : ℕ → ℕ → Number → ℕ → Number
+with_byte base limit past b = cond past.said (extended base limit past.value (digit_of b)) past

@@ -1,9 +1,9 @@
 // The numbers that the words of a line say.
 ghost use Rattle.std.specs.Prelude.{◌≡◌, ◌≤◌, length};
 ghost use Rattle.std.proofs.Math.Seq.{slice};
-ghost use Rattle.words.specs.Words.{wordAt};
-ghost use Rattle.numbers.specs.Numbers.{digitOf, digits, signless, hasMinus, isNumber, naturalAt, bits_at, signedAt, largest};
-ghost use Rattle.numbers.specs.Steps.{Ready, withByte};
+ghost use Rattle.words.specs.Words.{word_at};
+ghost use Rattle.numbers.specs.Numbers.{digit_of, digits, signless, has_minus, is_number, natural_at, bits_at, signed_at, largest};
+ghost use Rattle.numbers.specs.Steps.{Ready, with_byte};
 
 use words::word_at;
 
@@ -34,7 +34,7 @@ struct Number {
 
 // What a byte is worth as a digit: 16 where it is none.
 fn digit_of(byte: u8) -> u8
-    ensures { result ≡ digitOf byte }
+    ensures { result ≡ digit_of byte }
 {
     if byte < b'0' {
         return 16;
@@ -54,7 +54,7 @@ fn digit_of(byte: u8) -> u8
 // One byte more. The last test asks whether the limit is passed, without passing it.
 fn with_byte(past: Number, byte: u8, base: u64, limit: u64) -> Number
     requires { Ready base limit }
-    ensures { result ≡ withByte base limit past byte }
+    ensures { result ≡ with_byte base limit past byte }
 {
     if !past.said {
         return past;
@@ -95,7 +95,7 @@ fn digits_in(line: &[u8], mut at: usize, end: usize, base: u64, limit: u64) -> N
 // The number that a word says by digits of a base.
 fn digits_at(line: &[u8], k: usize, base: u64) -> Number
     requires { Ready base largest }
-    ensures { result ≡ digits base largest (wordAt line.now k) }
+    ensures { result ≡ digits base largest (word_at line.now k) }
 {
     let word = word_at(line, k);
     digits_in(line, word.start, word.end, base, LARGEST)
@@ -103,7 +103,7 @@ fn digits_at(line: &[u8], k: usize, base: u64) -> Number
 
 // Whether a word starts with a minus.
 fn minus_at(line: &[u8], k: usize) -> bool
-    ensures { result ≡ hasMinus (wordAt line.now k) }
+    ensures { result ≡ has_minus (word_at line.now k) }
 {
     let word = word_at(line, k);
     let start = word.start;
@@ -115,7 +115,7 @@ fn minus_at(line: &[u8], k: usize) -> bool
 
 // The number that a word says behind its minus, where it has one.
 fn signless_at(line: &[u8], k: usize) -> Number
-    ensures { result ≡ signless (wordAt line.now k) }
+    ensures { result ≡ signless (word_at line.now k) }
 {
     let word = word_at(line, k);
     if minus_at(line, k) {
@@ -126,7 +126,7 @@ fn signless_at(line: &[u8], k: usize) -> Number
 
 // Whether a word says a number of a kind.
 pub fn is_number(line: &[u8], k: usize, kind: Kind) -> bool
-    ensures { result ≡ isNumber line.now k kind }
+    ensures { result ≡ is_number line.now k kind }
 {
     match kind {
         Kind::Natural => digits_at(line, k, 10).said,
@@ -137,7 +137,7 @@ pub fn is_number(line: &[u8], k: usize, kind: Kind) -> bool
 
 // The number of a word; 0 where it says none of its kind.
 pub fn natural_at(line: &[u8], k: usize) -> u64
-    ensures { result ≡ naturalAt line.now k }
+    ensures { result ≡ natural_at line.now k }
 {
     digits_at(line, k, 10).value
 }
@@ -150,7 +150,7 @@ pub fn bits_at(line: &[u8], k: usize) -> u64
 
 // The least number has no magnitude that is a signed number of 64 bits.
 pub fn signed_at(line: &[u8], k: usize) -> i64
-    ensures { result ≡ signedAt line.now k }
+    ensures { result ≡ signed_at line.now k }
 {
     let value = signless_at(line, k).value;
     if minus_at(line, k) {

@@ -14,18 +14,18 @@ use native.Mathlib.Nat as N
 use native.Mathlib.Omega.{arith}
 use lib.IntN.{ℤ, pos, nat_abs, pow, ◌*ℤ◌}
 use lib.ListN.{length, get_or, length-map, get_or-map}
-use Rattle.whole.proofs.Magnitudes.{natAbs-+, within, within-*, within-pow}
+use Rattle.whole.proofs.Magnitudes.{nat_abs-+, within, within-*, within-pow}
 use Rattle.polynomials.specs.Numbers.{ints, nats}
 use Rattle.polynomials.specs.Sum.{sum}
 use Rattle.polynomials.specs.Order.{powers, place}
 use Rattle.polynomials.specs.Binomial.{choose}
-use Rattle.polynomials.specs.Group.{own, raised, number, term, evaluated, given, movedNumber, replaced, value, weight, moved}
+use Rattle.polynomials.specs.Group.{own, raised, number, term, evaluated, given, moved_number, replaced, value, weight, moved}
 use Rattle.polynomials.specs.declared.Variable.{Variable}
 use Rattle.polynomials.specs.declared.Variable.TheVariants.{First, Second}
 use Rattle.polynomials.proofs.Semiring.{natural}
 use Rattle.polynomials.proofs.Sums.{sum-suc, sum-split}
 use Rattle.polynomials.proofs.Places.{powers-place}
-use Rattle.polynomials.proofs.Listed.{getD-listed}
+use Rattle.polynomials.proofs.Listed.{get_or-listed}
 use Rattle.polynomials.proofs.Moves.{evaluated-replaced, length-replaced, length_moved}
 
 -- ---- sums
@@ -42,18 +42,18 @@ sum-part j n f h =
 sum-term : (n k : ℕ) (f : ℕ → ℕ) → k < n → f k ≤ sum nats n f
 sum-term n k f h = omega (arith, sum-part (suc k) n f h, sum-suc natural k f)
 
-natAbs-sum : (n : ℕ) (f : ℕ → ℤ) → nat_abs (sum ints n f) ≤ sum nats n (λ k. nat_abs (f k))
+nat_abs-sum : (n : ℕ) (f : ℕ → ℤ) → nat_abs (sum ints n f) ≤ sum nats n (λ k. nat_abs (f k))
 unfolding sum
-natAbs-sum zero f = N.le_refl zero
-natAbs-sum (suc n) f = omega (arith, natAbs-+ (sum ints n f) (f n), natAbs-sum n f)
+nat_abs-sum zero f = N.le_refl zero
+nat_abs-sum (suc n) f = omega (arith, nat_abs-+ (sum ints n f) (f n), nat_abs-sum n f)
 
 -- terms that are each at most those of g: the sum of the first of them, and of any of them
 module _ (n : ℕ) (f : ℕ → ℤ) (g : ℕ → ℕ) (h : (k : ℕ) → nat_abs (f k) ≤ g k) where
   part-bound : (j : ℕ) → j ≤ n → nat_abs (sum ints j f) ≤ sum nats n g
-  part-bound j l = N.le_trans (natAbs-sum j f) (N.le_trans (sum_mono j _ g (λ k b. h k)) (sum-part j n g l))
+  part-bound j l = N.le_trans (nat_abs-sum j f) (N.le_trans (sum_mono j _ g (λ k b. h k)) (sum-part j n g l))
 
   some-bound : (chosen : ℕ → Bool) → nat_abs (sum ints n (λ k. cond (chosen k) (f k) (pos 0))) ≤ sum nats n g
-  some-bound chosen = N.le_trans (natAbs-sum n _) (sum_mono n _ g (λ k b. either (chosen k) k))
+  some-bound chosen = N.le_trans (nat_abs-sum n _) (sum_mono n _ g (λ k b. either (chosen k) k))
     where
       either : (b : Bool) (k : ℕ) → nat_abs (cond b (f k) (pos 0)) ≤ g k
       either true k = h k
@@ -63,15 +63,15 @@ module _ (n : ℕ) (f : ℕ → ℤ) (g : ℕ → ℕ) (h : (k : ℕ) → nat_ab
 abbrev sizes : List ℤ → List ℕ
 sizes l = map nat_abs l
 
-getD-sizes : (l : List ℤ) (k : ℕ) → get_or (sizes l) k 0 ≡ nat_abs (get_or l k (pos 0))
-getD-sizes l k = get_or-map nat_abs l k (pos 0)
+get_or-sizes : (l : List ℤ) (k : ℕ) → get_or (sizes l) k 0 ≡ nat_abs (get_or l k (pos 0))
+get_or-sizes l k = get_or-map nat_abs l k (pos 0)
 
 -- ---- a group's own terms
 module _ (l : List ℤ) (x y : ℤ) (r t : ℕ) (hx : nat_abs x ≤ r) (hy : nat_abs y ≤ t) where
   term-bound : (k : ℕ) → nat_abs (term ints l x y k) ≤ term nats (sizes l) r t k
   unfolding term
   term-bound k =
-      rw (getD-sizes l k)
+      rw (get_or-sizes l k)
       (within-* (within-* (within (get_or l k (pos 0))) (within-pow (record { size = hx }) (powers k).first)) (within-pow (record { size = hy }) (powers k).second)).size
 
   pub part-within : (j : ℕ) → j ≤ length l → nat_abs (sum ints j (term ints l x y)) ≤ weight l r t
@@ -102,7 +102,7 @@ module _ (r t : ℕ) (hr : 1 ≤ r) (ht : 1 ≤ t) where
       N.le_trans (N.mul-le-mul (N.mul-le-mul_left (get_or m k 0) (N.pow-le-pow_right hr a)) (N.pow-le-pow_right ht b)) (sum-term (length m) k (term nats m r t) h)
 
   weight-number : (l : List ℤ) (k i j : ℕ) → k < length l → i ≤ (powers k).first → j ≤ (powers k).second → nat_abs (get_or l k (pos 0)) * r ^ i * t ^ j ≤ weight l r t
-  weight-number l k i j h a b = rw (← getD-sizes l k) (number_bound (sizes l) k i j (omega (arith, length-map l nat_abs)) a b)
+  weight-number l k i j h a b = rw (← get_or-sizes l k) (number_bound (sizes l) k i j (omega (arith, length-map l nat_abs)) a b)
 
   pub product-within : (l : List ℤ) (x y : ℤ) → nat_abs x ≤ r → nat_abs y ≤ t → (k i j : ℕ) → k < length l → i ≤ (powers k).first → j ≤ (powers k).second
       → nat_abs (get_or l k (pos 0) *ℤ pow x i *ℤ pow y j) ≤ weight l r t
@@ -113,7 +113,7 @@ module _ (r t : ℕ) (hr : 1 ≤ r) (ht : 1 ≤ t) where
 module _ (w : Variable) (s : ℤ) (l : List ℤ) where
   number-sizes : (p q : ℕ) → number nats (sizes l) p q ≡ nat_abs (number ints l p q)
   unfolding number
-  number-sizes p q = getD-sizes l (place p q)
+  number-sizes p q = get_or-sizes l (place p q)
 
   raised-sizes : (v : Variable) (j p q : ℕ) → raised v j (number nats (sizes l)) p q ≡ nat_abs (raised v j (number ints l) p q)
   raised-sizes First j p q = number-sizes (p + j) q
@@ -126,28 +126,28 @@ module _ (w : Variable) (s : ℤ) (l : List ℤ) where
       (within-* (within (raised w j (number ints l) p q)) (within-* (within (pos (choose (own w p q + j) (own w p q)))) (within-pow (within s) (own w p q + j - own w p q)))).size
 
   -- the sum of the first terms of a moved number, against the same of the magnitudes
-  moved-bound : (p q j : ℕ) → j ≤ length l → nat_abs (sum ints j (given ints w s l p q)) ≤ movedNumber nats w (nat_abs s) (sizes l) p q
-  unfolding movedNumber
+  moved-bound : (p q j : ℕ) → j ≤ length l → nat_abs (sum ints j (given ints w s l p q)) ≤ moved_number nats w (nat_abs s) (sizes l) p q
+  unfolding moved_number
   moved-bound p q j h = part-bound (length (sizes l)) (given ints w s l p q) (given nats w (nat_abs s) (sizes l) p q) (given-bound p q) j (omega (arith, length-map l nat_abs))
 
-  get_d_moved : (k : ℕ) → k < length l → get_or (moved w s l) k (pos 0) ≡ movedNumber ints w s l (powers k).first (powers k).second
+  get_d_moved : (k : ℕ) → k < length l → get_or (moved w s l) k (pos 0) ≡ moved_number ints w s l (powers k).first (powers k).second
   unfolding replaced
-  get_d_moved k h = getD-listed (length l) _ k (pos 0) h
+  get_d_moved k h = get_or-listed (length l) _ k (pos 0) h
 
-  getD-replaced : (k : ℕ) → k < length l → get_or (replaced nats w (nat_abs s) (sizes l)) k 0 ≡ movedNumber nats w (nat_abs s) (sizes l) (powers k).first (powers k).second
+  get_or-replaced : (k : ℕ) → k < length l → get_or (replaced nats w (nat_abs s) (sizes l)) k 0 ≡ moved_number nats w (nat_abs s) (sizes l) (powers k).first (powers k).second
   unfolding replaced
-  getD-replaced k h = getD-listed (length (sizes l)) _ k 0 (omega (arith, length-map l nat_abs))
+  get_or-replaced k h = get_or-listed (length (sizes l)) _ k 0 (omega (arith, length-map l nat_abs))
 
   module _ (r t : ℕ) where
     -- the weight of the old group with the longer reach
-    abbrev longerWeight : ℕ
-    longerWeight = weight l (own w (r + nat_abs s) r) (own w t (t + nat_abs s))
+    abbrev longer_weight : ℕ
+    longer_weight = weight l (own w (r + nat_abs s) r) (own w t (t + nat_abs s))
 
-    replaced-weight : evaluated nats (replaced nats w (nat_abs s) (sizes l)) r t ≡ longerWeight
+    replaced-weight : evaluated nats (replaced nats w (nat_abs s) (sizes l)) r t ≡ longer_weight
     replaced-weight = evaluated-replaced natural w (nat_abs s) (sizes l) r t
 
-    pub weight-moved : weight (moved w s l) r t ≤ longerWeight
-    unfolding evaluated term movedNumber
+    pub weight-moved : weight (moved w s l) r t ≤ longer_weight
+    unfolding evaluated term moved_number
     weight-moved =
         let e : length (sizes (moved w s l)) ≡ length l = length-map (moved w s l) nat_abs ∙ length_moved w s l in
         let d : length (replaced nats w (nat_abs s) (sizes l)) ≡ length l = length-replaced natural w (nat_abs s) (sizes l) ∙ length-map l nat_abs in
@@ -158,37 +158,37 @@ module _ (w : Variable) (s : ℤ) (l : List ℤ) where
       where
         each : (k : ℕ) → k < length l → get_or (sizes (moved w s l)) k 0 ≤ get_or (replaced nats w (nat_abs s) (sizes l)) k 0
         each k h =
-            rw (getD-sizes (moved w s l) k, get_d_moved k h, getD-replaced k h) (moved-bound (powers k).first (powers k).second (length l) (N.le_refl (length l)))
+            rw (get_or-sizes (moved w s l) k, get_d_moved k h, get_or-replaced k h) (moved-bound (powers k).first (powers k).second (length l) (N.le_refl (length l)))
 
     module _ (hr : 1 ≤ r) (ht : 1 ≤ t) (p q : ℕ) (h : place p q < length l) where
-      moved-weight : movedNumber nats w (nat_abs s) (sizes l) p q ≤ longerWeight
+      moved-weight : moved_number nats w (nat_abs s) (sizes l) p q ≤ longer_weight
       moved-weight =
           let n = replaced nats w (nat_abs s) (sizes l) in
-          let e : get_or n (place p q) 0 ≡ movedNumber nats w (nat_abs s) (sizes l) p q =
-          getD-replaced (place p q) h ∙ ap₂ (movedNumber nats w (nat_abs s) (sizes l)) (powers-place p q).0 (powers-place p q).1
+          let e : get_or n (place p q) 0 ≡ moved_number nats w (nat_abs s) (sizes l) p q =
+          get_or-replaced (place p q) h ∙ ap₂ (moved_number nats w (nat_abs s) (sizes l)) (powers-place p q).0 (powers-place p q).1
           in
           let b : get_or n (place p q) 0 * r ^ 0 * t ^ 0 ≤ evaluated nats n r t =
           number_bound r t hr ht n (place p q) 0 0 (omega (arith, length-replaced natural w (nat_abs s) (sizes l), length-map l nat_abs)) (omega arith) (omega arith)
           in
           omega (arith, replaced-weight, ap (λ a. get_or n (place p q) 0 * a * t ^ 0) (N.pow-zero r), ap (λ a. get_or n (place p q) 0 * 1 * a) (N.pow-zero t))
 
-      pub moved-part-within : (j : ℕ) → j ≤ length l → nat_abs (sum ints j (given ints w s l p q)) ≤ longerWeight
+      pub moved-part-within : (j : ℕ) → j ≤ length l → nat_abs (sum ints j (given ints w s l p q)) ≤ longer_weight
       moved-part-within j b = N.le_trans (moved-bound p q j b) moved-weight
 
-      pub moved-some-within : (chosen : ℕ → Bool) → nat_abs (sum ints (length l) (λ k. cond (chosen k) (given ints w s l p q k) (pos 0))) ≤ longerWeight
-      unfolding movedNumber
+      pub moved-some-within : (chosen : ℕ → Bool) → nat_abs (sum ints (length l) (λ k. cond (chosen k) (given ints w s l p q k) (pos 0))) ≤ longer_weight
+      unfolding moved_number
       moved-some-within chosen =
           N.le_trans
-          (subst (λ n. nat_abs (sum ints n (λ k. cond (chosen k) (given ints w s l p q k) (pos 0))) ≤ movedNumber nats w (nat_abs s) (sizes l) p q) (length-map l nat_abs)
+          (subst (λ n. nat_abs (sum ints n (λ k. cond (chosen k) (given ints w s l p q k) (pos 0))) ≤ moved_number nats w (nat_abs s) (sizes l) p q) (length-map l nat_abs)
           (some-bound (length (sizes l)) (given ints w s l p q) (given nats w (nat_abs s) (sizes l) p q) (given-bound p q) chosen))
           moved-weight
 
-      pub moved-within : nat_abs (movedNumber ints w s l p q) ≤ longerWeight
-      unfolding movedNumber
+      pub moved-within : nat_abs (moved_number ints w s l p q) ≤ longer_weight
+      unfolding moved_number
       moved-within = moved-part-within (length l) (N.le_refl (length l))
 
-      pub given-within : (j : ℕ) → j < length l → nat_abs (given ints w s l p q j) ≤ longerWeight
-      unfolding movedNumber
+      pub given-within : (j : ℕ) → j < length l → nat_abs (given ints w s l p q j) ≤ longer_weight
+      unfolding moved_number
       given-within j b =
           N.le_trans (given-bound p q j)
           (N.le_trans (sum-term (length (sizes l)) j (given nats w (nat_abs s) (sizes l) p q) (omega (arith, length-map l nat_abs))) moved-weight)

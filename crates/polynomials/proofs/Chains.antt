@@ -15,7 +15,7 @@ use lib.IntN.{ℤ, pos, ◌*ℤ◌, zero-*ℤ}
 use lib.ListN.{length, get_or, get_or-eq_default}
 use Rattle.polynomials.specs.Numbers.{ints}
 use Rattle.polynomials.specs.Order.{powers, below, place}
-use Rattle.polynomials.specs.Binomial.{multipliedOut}
+use Rattle.polynomials.specs.Binomial.{multiplied_out}
 use Rattle.polynomials.specs.Group.{own, number, given}
 use Rattle.polynomials.specs.declared.Variable.{Variable}
 use Rattle.polynomials.specs.declared.Variable.TheVariants.{First, Second}
@@ -55,7 +55,7 @@ pub chain-powers : (w : Variable) (k : ℕ) → chain w (own w (powers k).second
 chain-powers First k = place-powers k
 chain-powers Second k = place-powers k
 
-pub given-chain : (w : Variable) (s : ℤ) (l : List ℤ) (b p j : ℕ) → given ints w s l (own w p b) (own w b p) j ≡ get_or l (chain w b (p + j)) (pos 0) *ℤ multipliedOut ints s (p + j) p
+pub given-chain : (w : Variable) (s : ℤ) (l : List ℤ) (b p j : ℕ) → given ints w s l (own w p b) (own w b p) j ≡ get_or l (chain w b (p + j)) (pos 0) *ℤ multiplied_out ints s (p + j) p
 unfolding given number
 given-chain First s l b p j = refl
 given-chain Second s l b p j = refl
@@ -63,4 +63,4 @@ given-chain Second s l b p j = refl
 pub given-end : (w : Variable) (s : ℤ) (l : List ℤ) (b p i j : ℕ) → length l ≤ chain w b (p + i) → i ≤ j → given ints w s l (own w p b) (own w b p) j ≡ pos 0
 given-end w s l b p i j h k =
     let past : length l ≤ chain w b (p + j) = N.le_trans h (chain-rises w b (p + i) b (p + j) (N.le_refl b) (omega arith)) in
-    given-chain w s l b p j ∙ ap (λ z. z *ℤ multipliedOut ints s (p + j) p) (get_or-eq_default l (pos 0) past) ∙ zero-*ℤ (multipliedOut ints s (p + j) p)
+    given-chain w s l b p j ∙ ap (λ z. z *ℤ multiplied_out ints s (p + j) p) (get_or-eq_default l (pos 0) past) ∙ zero-*ℤ (multiplied_out ints s (p + j) p)

@@ -15,7 +15,7 @@ use lib.ListN.{length}
 use Rattle.polynomials.specs.Numbers.{Numbers}
 use Rattle.polynomials.specs.Order.{size}
 use Rattle.polynomials.specs.Group.{number, evaluated}
-use Rattle.polynomials.specs.Downward.{down, rowDownward, downward}
+use Rattle.polynomials.specs.Downward.{down, row_downward, downward}
 use Rattle.polynomials.proofs.Semiring.{Semiring, ring, nil-mul}
 use Rattle.polynomials.proofs.Sums.{sum-zero, sum-suc, sum-front, sum-ext, sum-nil, sum-mul, sum-shrink}
 use Rattle.polynomials.proofs.Rows.{value₁, value₁-ext}
@@ -86,7 +86,7 @@ module _ (S : Semiring) where
     abbrev whole_row : ℕ → A
     whole_row q = value₁ S (length l) (λ p. num p q) x
 
-    row_is : (q : ℕ) → rowDownward S.numbers ◌⊗◌ d num x q ≡ whole_row q
+    row_is : (q : ℕ) → row_downward S.numbers ◌⊗◌ d num x q ≡ whole_row q
     row_is q =
         down-value (λ p. num p q) x (d - q) 0 ∙ value₁-ext S (suc (d - q)) _ (λ p. num p q) x (λ p b. ap (λ i. num i q) (N.zero-add p))
         ∙ sym (shrink (suc (d - q)) (length l + suc d) (λ p. num p q) x (omega arith) (λ p b. number_short S l p q (omega (arith, place-past (suc d) p q (omega arith)))))
@@ -95,13 +95,13 @@ module _ (S : Semiring) where
     whole-row-past : (q : ℕ) → d < q → whole_row q ≡ of 0
     whole-row-past q h = nothing (length l) _ x (λ p. number_short S l p q (omega (arith, place-past (suc d) p q (omega arith))))
 
-    pub row-past : (q : ℕ) → d < q → rowDownward S.numbers ◌⊗◌ d num x q ≡ of 0
+    pub row-past : (q : ℕ) → d < q → row_downward S.numbers ◌⊗◌ d num x q ≡ of 0
     row-past q h = row_is q ∙ whole-row-past q h
 
-    pub rows-value : (e : ℕ) → d ≤ e → down S.numbers ◌⊗◌ (rowDownward S.numbers ◌⊗◌ d num x) y e 0 ≡ evaluated S.numbers l x y
+    pub rows-value : (e : ℕ) → d ≤ e → down S.numbers ◌⊗◌ (row_downward S.numbers ◌⊗◌ d num x) y e 0 ≡ evaluated S.numbers l x y
     rows-value e h =
-        down-value (rowDownward S.numbers ◌⊗◌ d num x) y e 0
-        ∙ value₁-ext S (suc e) _ whole_row y (λ q b. ap (rowDownward S.numbers ◌⊗◌ d num x) (N.zero-add q) ∙ row_is q)
+        down-value (row_downward S.numbers ◌⊗◌ d num x) y e 0
+        ∙ value₁-ext S (suc e) _ whole_row y (λ q b. ap (row_downward S.numbers ◌⊗◌ d num x) (N.zero-add q) ∙ row_is q)
         ∙ sym (shrink (suc e) (length l + suc e) whole_row y (omega arith) (λ q b. whole-row-past q (omega arith)))
         ∙ shrink (length l) (length l + suc e) whole_row y (omega arith) (λ q b. nothing (length l) _ x (λ p. number_short S l p q (omega (arith, degree-place p q))))
         ∙ sym (evaluated-at S l x y)

@@ -4,7 +4,7 @@
 --   product-fits, next_fits  so what the code forms on the way fits 64 bits, where the magnitudes come to the cap at most
 --   number_size, row-size    a number, and a row, against its magnitudes
 --   weight-rows              the weight of a group by its rows
---   rowsWeight, rows_none, rows_more, rows_all   the rows from a power on, as a loop takes them
+--   rows_weight, rows_none, rows_more, rows_all   the rows from a power on, as a loop takes them
 --   rows-part, row-light     neither these nor a single row weigh more than the group
 use mathlib.Core.Path.{◌≡◌, sym, ◌∙◌, ap, subst}
 use mathlib.Core.List.{List, map}
@@ -17,12 +17,12 @@ use lib.IntN.{ℤ, pos, nat_abs, ◌+ℤ◌, ◌*ℤ◌}
 use lib.ListN.{length, length-map, get_or-map}
 use mir.Syntax.{w64}
 use mir.Val.{SFits}
-use Rattle.whole.proofs.Magnitudes.{natAbs-+, natAbs-*}
-use Rattle.whole.proofs.Machine.{natAbs-sfits}
+use Rattle.whole.proofs.Magnitudes.{nat_abs-+, nat_abs-*}
+use Rattle.whole.proofs.Machine.{nat_abs-sfits}
 use Rattle.polynomials.specs.Numbers.{ints, nats}
 use Rattle.polynomials.specs.Order.{size, place}
 use Rattle.polynomials.specs.Group.{number, weight}
-use Rattle.polynomials.specs.Downward.{down, rowDownward, rowWeight}
+use Rattle.polynomials.specs.Downward.{down, row_downward, row_weight}
 use Rattle.polynomials.specs.Limits.{cap}
 use Rattle.polynomials.proofs.Semiring.{natural}
 use Rattle.polynomials.proofs.Downward.{down-start, down-more, down-all, row-past, rows-value}
@@ -63,7 +63,7 @@ module _ (f : ℕ → ℤ) (g : ℕ → ℕ) (x : ℤ) (r : ℕ) (each : (i : �
   down-within zero p = each p
   down-within (suc k) p =
       let above = down ints ◌*ℤ◌ f x k (suc p) in
-      omega (arith, natAbs-+ (above *ℤ x) (f p), natAbs-* above x, N.mul-le-mul (down-within k (suc p)) near, each p)
+      omega (arith, nat_abs-+ (above *ℤ x) (f p), nat_abs-* above x, N.mul-le-mul (down-within k (suc p)) near, each p)
 
   -- ════ in 64 bits
   module _ (n : ℕ) (one : 1 ≤ r) (light : down nats ◌*◌ g r n 0 ≤ cap) (p : ℕ) (h : p < n) where
@@ -72,13 +72,13 @@ module _ (f : ℕ → ℤ) (g : ℕ → ℕ) (x : ℤ) (r : ℕ) (each : (i : �
 
     pub product-fits : SFits w64 (taken *ℤ x)
     product-fits =
-        natAbs-sfits (taken *ℤ x)
-        (omega (arith, natAbs-* taken x, N.mul-le-mul (down-within (n - (p + 1)) (p + 1)) near, down-product g r one n p h))
+        nat_abs-sfits (taken *ℤ x)
+        (omega (arith, nat_abs-* taken x, N.mul-le-mul (down-within (n - (p + 1)) (p + 1)) near, down-product g r one n p h))
 
     pub next_fits : SFits w64 (taken *ℤ x +ℤ f p)
     next_fits =
         subst (SFits w64) (down-more ints ◌*ℤ◌ f x n p h)
-        (natAbs-sfits _ (omega (arith, down-within (n - p) p, down-part g r one n p (N.le_of_lt h))))
+        (nat_abs-sfits _ (omega (arith, down-within (n - p) p, down-part g r one n p (N.le_of_lt h))))
 
 -- ════ the rows of a group
 module _ (d : ℕ) (l : List ℤ) where
@@ -86,34 +86,34 @@ module _ (d : ℕ) (l : List ℤ) where
   unfolding number
   number_size p q = N.le_of_eq (sym (get_or-map nat_abs l (place p q) (pos 0)))
 
-  pub row-size : (x : ℤ) (r q : ℕ) → nat_abs x ≤ r → nat_abs (rowDownward ints ◌*ℤ◌ d (number ints l) x q) ≤ rowWeight d l r q
+  pub row-size : (x : ℤ) (r q : ℕ) → nat_abs x ≤ r → nat_abs (row_downward ints ◌*ℤ◌ d (number ints l) x q) ≤ row_weight d l r q
   row-size x r q h = down-within (λ p. number ints l p q) (λ p. number nats (map nat_abs l) p q) x r (λ p. number_size p q) h (d - q) 0
 
   module _ (r t : ℕ) where
     -- what the rows from the power q on weigh; one more stands above them, which is 0, so that a loop may start with nothing
-    abbrev pub rowsWeight : ℕ → ℕ
-    rowsWeight q = down nats ◌*◌ (rowWeight d l r) t (d + 1 - q) q
+    abbrev pub rows_weight : ℕ → ℕ
+    rows_weight q = down nats ◌*◌ (row_weight d l r) t (d + 1 - q) q
 
-    pub rows_more : (q : ℕ) {s : ℕ} → q ≤ d → s ≡ rowsWeight (q + 1) → s * t + rowWeight d l r q ≡ rowsWeight q
-    rows_more q h e = ap (λ m. m * t + rowWeight d l r q) e ∙ sym (down-more nats ◌*◌ (rowWeight d l r) t (d + 1) q (omega arith))
+    pub rows_more : (q : ℕ) {s : ℕ} → q ≤ d → s ≡ rows_weight (q + 1) → s * t + row_weight d l r q ≡ rows_weight q
+    rows_more q h e = ap (λ m. m * t + row_weight d l r q) e ∙ sym (down-more nats ◌*◌ (row_weight d l r) t (d + 1) q (omega arith))
 
     module _ (few : length l ≤ size d) where
       few-sizes : length (map nat_abs l) ≤ size d
       few-sizes = omega (arith, length-map l nat_abs)
 
-      pub rows_none : rowsWeight (d + 1) ≡ 0
-      rows_none = down-start nats ◌*◌ (rowWeight d l r) t (d + 1) ∙ row-past natural d (map nat_abs l) few-sizes r t (d + 1) (omega arith)
+      pub rows_none : rows_weight (d + 1) ≡ 0
+      rows_none = down-start nats ◌*◌ (row_weight d l r) t (d + 1) ∙ row-past natural d (map nat_abs l) few-sizes r t (d + 1) (omega arith)
 
       -- all rows, also where some above the degree are taken
-      pub weight-rows : (e : ℕ) → d ≤ e → down nats ◌*◌ (rowWeight d l r) t e 0 ≡ weight l r t
+      pub weight-rows : (e : ℕ) → d ≤ e → down nats ◌*◌ (row_weight d l r) t e 0 ≡ weight l r t
       weight-rows = rows-value natural d (map nat_abs l) few-sizes r t
 
-      pub rows_all : rowsWeight 0 ≡ weight l r t
-      rows_all = down-all nats ◌*◌ (rowWeight d l r) t (d + 1) ∙ weight-rows (d + 1) (omega arith)
+      pub rows_all : rows_weight 0 ≡ weight l r t
+      rows_all = down-all nats ◌*◌ (row_weight d l r) t (d + 1) ∙ weight-rows (d + 1) (omega arith)
 
       module _ (one : 1 ≤ t) (q : ℕ) (h : q ≤ d) where
-        pub rows-part : rowsWeight q ≤ weight l r t
-        rows-part = omega (arith, down-part (rowWeight d l r) t one (d + 1) q (omega arith), weight-rows (d + 1) (omega arith))
+        pub rows-part : rows_weight q ≤ weight l r t
+        rows-part = omega (arith, down-part (row_weight d l r) t one (d + 1) q (omega arith), weight-rows (d + 1) (omega arith))
 
-        pub row-light : rowWeight d l r q ≤ weight l r t
-        row-light = omega (arith, down-number (rowWeight d l r) t one d q h, weight-rows d (N.le_refl d))
+        pub row-light : row_weight d l r q ≤ weight l r t
+        row-light = omega (arith, down-number (row_weight d l r) t one d q h, weight-rows d (N.le_refl d))

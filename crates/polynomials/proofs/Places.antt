@@ -13,7 +13,7 @@ use native.Mathlib.Omega.{arith}
 use native.Mathlib.Decide.{dec_lt}
 use native.Mathlib.Numerals.{add-one}
 use Rattle.polynomials.specs.Order.{next, powers, below, size, place}
-use Rattle.polynomials.specs.Limits.{highestDegree}
+use Rattle.polynomials.specs.Limits.{highest_degree}
 use Rattle.polynomials.specs.declared.Powers.{Powers}
 
 below_suc : (n : ℕ) → below (suc n) ≡ below n + suc n
@@ -28,7 +28,7 @@ twice-below (suc n) = omega (arith, twice-below n, N.suc-mul n (suc n + 1), N.mu
 pub below-is : (n : ℕ) → n * (n + 1) / 2 ≡ below n
 below-is n = omega (arith, twice-below n)
 
-pub below-highest : size highestDegree ≡ 15
+pub below-highest : size highest_degree ≡ 15
 unfolding below
 below-highest = refl
 

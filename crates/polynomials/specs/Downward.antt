@@ -10,13 +10,13 @@ module _ (S : Numbers) (times : S.N → S.N → S.N) where
   down g x (suc k) p = S.add (times (down g x k (suc p)) x) (g p)
 
   -- what stands before the powers 0 to d - q of u beside vᵠ
-  abbrev pub rowDownward : ℕ → (ℕ → ℕ → S.N) → S.N → ℕ → S.N
-  rowDownward d c x q = down (λ p. c p q) x (d - q) 0
+  abbrev pub row_downward : ℕ → (ℕ → ℕ → S.N) → S.N → ℕ → S.N
+  row_downward d c x q = down (λ p. c p q) x (d - q) 0
 
   -- numbers c p q before uᵖvᵠ of total degree at most d: each row in u, and the rows from the highest power of v down
   abbrev pub downward : ℕ → (ℕ → ℕ → S.N) → S.N → S.N → S.N
-  downward d c x y = down (rowDownward d c x) y d 0
+  downward d c x y = down (row_downward d c x) y d 0
 
 -- what the magnitudes of a group beside vᵠ weigh at a reach of u
-abbrev pub rowWeight : ℕ → List ℤ → ℕ → ℕ → ℕ
-rowWeight d l r q = rowDownward nats ◌*◌ d (number nats (map nat_abs l)) r q
+abbrev pub row_weight : ℕ → List ℤ → ℕ → ℕ → ℕ
+row_weight d l r q = row_downward nats ◌*◌ d (number nats (map nat_abs l)) r q

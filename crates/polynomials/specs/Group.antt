@@ -3,7 +3,7 @@ use Rattle.std.specs.Prelude.{List, map, ℕ, ◌+◌, ℤ, nat_abs, length, get
 use Rattle.polynomials.specs.Numbers.{Numbers, ints, nats}
 use Rattle.polynomials.specs.Sum.{sum, listed}
 use Rattle.polynomials.specs.Order.{powers, place}
-use Rattle.polynomials.specs.Binomial.{multipliedOut}
+use Rattle.polynomials.specs.Binomial.{multiplied_out}
 use Rattle.polynomials.specs.declared.Variable.{Variable}
 use Rattle.polynomials.specs.declared.Variable.TheVariants.{First, Second}
 
@@ -32,14 +32,14 @@ module _ (S : Numbers) where
 
   -- where u is replaced by u + s and multiplied out, uᵖ⁺ʲvᵠ gives its number times what stands before uᵖ in (u + s)ᵖ⁺ʲ to uᵖvᵠ; the same for v
   unfoldable pub given : Variable → S.N → List S.N → ℕ → ℕ → ℕ → S.N
-  given w s l p q j = S.mul (raised w j (number l) p q) (multipliedOut S s (own w p q + j) (own w p q))
+  given w s l p q j = S.mul (raised w j (number l) p q) (multiplied_out S s (own w p q + j) (own w p q))
 
-  unfoldable pub movedNumber : Variable → S.N → List S.N → ℕ → ℕ → S.N
-  movedNumber w s l p q = sum S (length l) (given w s l p q)
+  unfoldable pub moved_number : Variable → S.N → List S.N → ℕ → ℕ → S.N
+  moved_number w s l p q = sum S (length l) (given w s l p q)
 
   -- the group with u, or v, replaced by itself + s, multiplied out
   unfoldable pub replaced : Variable → S.N → List S.N → List S.N
-  replaced w s l = listed (length l) (λ k. movedNumber w s l (powers k).first (powers k).second)
+  replaced w s l = listed (length l) (λ k. moved_number w s l (powers k).first (powers k).second)
 
 -- the value of a group at a pair of readings
 abbrev pub value : List ℤ → ℤ → ℤ → ℤ

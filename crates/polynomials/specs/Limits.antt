@@ -12,8 +12,8 @@ abbrev pub farthest : ℕ
 farthest = 4000
 
 -- the highest total degree that the code serves
-abbrev pub highestDegree : ℕ
-highestDegree = 4
+abbrev pub highest_degree : ℕ
+highest_degree = 4
 
 -- the sum while it is within the cap
 abbrev pub against : ℕ → Weighed

@@ -2,18 +2,18 @@
 use Rattle.std.specs.Prelude.{◌≡◌, List, ℕ, ◌+◌, ◌/◌, ◌≤◌, max, ℤ, nat_abs, length}
 use Rattle.polynomials.specs.Order.{size}
 use Rattle.polynomials.specs.Group.{own, weight}
-use Rattle.polynomials.specs.Limits.{cap, farthest, highestDegree}
+use Rattle.polynomials.specs.Limits.{cap, farthest, highest_degree}
 use Rattle.polynomials.specs.declared.Variable.{Variable}
 use Rattle.polynomials.specs.declared.Reach.{Reach}
 
 -- to read a group at x and y
 pub record Readable (l : List ℤ) (x y : ℤ) : Type 0 where
-  pub few : length l ≤ size highestDegree
+  pub few : length l ≤ size highest_degree
   pub light : weight l (max 1 (nat_abs x)) (max 1 (nat_abs y)) ≤ cap
 
 -- to move it by s: its weight at reaches of 1, the moved variable's longer by |s|
 pub record Movable (w : Variable) (s : ℤ) (l : List ℤ) : Type 0 where
-  pub few : length l ≤ size highestDegree
+  pub few : length l ≤ size highest_degree
   pub near : nat_abs s ≤ farthest
   pub light : weight l (own w (1 + nat_abs s) 1) (own w 1 (1 + nat_abs s)) ≤ cap
 
@@ -25,6 +25,6 @@ pub record Reached (r : Reach) : Type 0 where
 -- to weigh a group of degree d at the reaches u and v
 pub record Weighable (l : List ℤ) (d : ℕ) (u v : Reach) : Type 0 where
   pub few : length l ≤ size d
-  pub low : d ≤ highestDegree
+  pub low : d ≤ highest_degree
   pub first : Reached u
   pub second : Reached v

@@ -2,8 +2,8 @@
 ghost use Rattle.std.specs.Prelude.{◌≡◌, ◌+◌, ◌*◌, ◌≤◌, pos, ◌*ℤ◌};
 ghost use Rattle.polynomials.specs.Numbers.{ints};
 ghost use Rattle.polynomials.specs.Group.{number, value, weight};
-ghost use Rattle.polynomials.specs.Downward.{rowDownward, rowWeight};
-ghost use Rattle.polynomials.specs.Limits.{highestDegree, against, joint};
+ghost use Rattle.polynomials.specs.Downward.{row_downward, row_weight};
+ghost use Rattle.polynomials.specs.Limits.{highest_degree, against, joint};
 ghost use Rattle.polynomials.specs.Ready.{Readable, Reached, Weighable};
 
 // No weight may pass it: 9 x 10^18.
@@ -54,7 +54,7 @@ pub struct Powers {
 
 // The number before the powers p of u and q of v; 0 where the group has none.
 pub fn number_at(group: &[i64], p: usize, q: usize) -> i64
-    requires { p + q ≤ highestDegree }
+    requires { p + q ≤ highest_degree }
     ensures { result ≡ number ints group.now p q }
 {
     let degree = p + q;
@@ -67,8 +67,8 @@ pub fn number_at(group: &[i64], p: usize, q: usize) -> i64
 
 // The numbers beside the power q of v, at the reading x: from the highest power of u down.
 fn row_at(group: &[i64], q: usize, x: i64) -> i64
-    requires { Readable group.now x (pos 0) × (q ≤ highestDegree) }
-    ensures { result ≡ rowDownward ints ◌*ℤ◌ highestDegree (number ints group.now) x q }
+    requires { Readable group.now x (pos 0) × (q ≤ highest_degree) }
+    ensures { result ≡ row_downward ints ◌*ℤ◌ highest_degree (number ints group.now) x q }
 {
     let mut p = HIGHEST_DEGREE - q;
     let mut row = number_at(group, p, q);
@@ -96,8 +96,8 @@ pub fn value_at(group: &[i64], x: i64, y: i64) -> i64
 // The sum times the reach v, and what the numbers beside the power q of v weigh at the reach u, together; or that one of the two passes
 // the cap. What a reach may multiply within the cap is known, so that nothing is formed that does not fit.
 pub fn add_row(sum: u64, group: &[i64], degree: usize, q: usize, u: Reach, v: Reach) -> Weighed
-    requires { (q ≤ degree) × ((degree ≤ highestDegree) × (Reached u × Reached v)) }
-    ensures { result ≡ joint (sum * v.size) (rowWeight degree group.now u.size q) }
+    requires { (q ≤ degree) × ((degree ≤ highest_degree) × (Reached u × Reached v)) }
+    ensures { result ≡ joint (sum * v.size) (row_weight degree group.now u.size q) }
 {
     if sum > v.most {
         return Weighed::Passed;

@@ -6,12 +6,12 @@ use lib.IntN as IntN
 use lib.IntN.{pos, neg_ℤ, pow}
 use Rattle.polynomials.specs.Order.{powers, below}
 use Rattle.polynomials.specs.Sum.{listed}
-use Rattle.layout.specs.Shape.{kindsLength, cumulus, gtm}
+use Rattle.layout.specs.Shape.{kinds_length, cumulus, gtm}
 use Rattle.layout.specs.Blocks.{low, high}
 use Rattle.layout.specs.Reading.{readings}
 use Rattle.printed.specs.Notation.{Polynomial, one, α, β, ξ, η, ζ, ◌·◌, ◌², ◌³, ◌⁴, ◌×10⁻²◌, ◌×10⁻¹◌, ◌×10⁰◌, ◌×10¹◌, ◌×10²◌, ◌⊕◌, ◌−◌, −◌}
-use Rattle.printed.specs.Values.{Angles, powerOf, product, degreeIn, monomialAt, scaleIn, at, together}
-use Rattle.printed.specs.Stored.{group, belongs, by_kind, degrees, degreeAt}
+use Rattle.printed.specs.Values.{Angles, power_of, product, degree_in, monomial_at, scale_in, at, together}
+use Rattle.printed.specs.Stored.{group, belongs, by_kind, degrees, degree_at}
 
 -- ════ the notation: 2.566 × 10⁻², 10⁻¹, 1, 10 and 10² in units of 10⁻⁵
 units :
@@ -27,7 +27,7 @@ signs-read : map (λ t. t.number) signs ≡ neg_ℤ (pos 1_000) ∷ pos 2_000 �
 signs-read = refl
 
 -- each letter is an angle of its own: their powers of the angles 0 to 4
-letters : map (λ a. map (powerOf a) (0 ∷ 1 ∷ 2 ∷ 3 ∷ 4 ∷ [])) (α ∷ β ∷ ξ ∷ η ∷ ζ ∷ α ² · η ∷ [])
+letters : map (λ a. map (power_of a) (0 ∷ 1 ∷ 2 ∷ 3 ∷ 4 ∷ [])) (α ∷ β ∷ ξ ∷ η ∷ ζ ∷ α ² · η ∷ [])
     ≡ (1 ∷ 0 ∷ 0 ∷ 0 ∷ 0 ∷ [])
     ∷ (0 ∷ 1 ∷ 0 ∷ 0 ∷ 0 ∷ [])
     ∷ (0 ∷ 0 ∷ 1 ∷ 0 ∷ 0 ∷ [])
@@ -39,12 +39,12 @@ letters = refl
 
 -- ════ values
 -- the variables of a shape by their names: alpha to zeta of the one, alpha and eta of the other
-variables-named : listed 5 (degreeIn cumulus (α ⁴ · β ³ · ξ ² · η)) ∷ listed 2 (degreeIn gtm (α ⁴ · β ³ · ξ ² · η)) ∷ [] ≡ (4 ∷ 3 ∷ 2 ∷ 1 ∷ 0 ∷ []) ∷ (4 ∷ 1 ∷ []) ∷ []
+variables-named : listed 5 (degree_in cumulus (α ⁴ · β ³ · ξ ² · η)) ∷ listed 2 (degree_in gtm (α ⁴ · β ³ · ξ ² · η)) ∷ [] ≡ (4 ∷ 3 ∷ 2 ∷ 1 ∷ 0 ∷ []) ∷ (4 ∷ 1 ∷ []) ∷ []
 unfolding listed
 variables-named = refl
 
 -- 2²·5 of five readings and 2²·7 of two: where beta would be read, there is none
-monomials-read : monomialAt cumulus (α ² · η) (readings (pos 2 ∷ pos 3 ∷ pos 11 ∷ pos 5 ∷ pos 13 ∷ [])) ∷ monomialAt gtm (α ² · η) (readings (pos 2 ∷ pos 7 ∷ [])) ∷ [] ≡ pos 20 ∷ pos 28 ∷ []
+monomials-read : monomial_at cumulus (α ² · η) (readings (pos 2 ∷ pos 3 ∷ pos 11 ∷ pos 5 ∷ pos 13 ∷ [])) ∷ monomial_at gtm (α ² · η) (readings (pos 2 ∷ pos 7 ∷ [])) ∷ [] ≡ pos 20 ∷ pos 28 ∷ []
 unfolding product pow IntN.one
 monomials-read = refl
 
@@ -62,7 +62,7 @@ counted-together = refl
 
 -- ════ groups
 -- terms with the same powers add up, and one with a letter of another group is not stored
-same-powers : by_kind (λ k f. (group cumulus (scaleIn milliradians) k f).numbers) cumulus.kinds (signs ∷ [])
+same-powers : by_kind (λ k f. (group cumulus (scale_in milliradians) k f).numbers) cumulus.kinds (signs ∷ [])
     ≡ (neg_ℤ (pos 1_000_000_000_000_000) ∷ pos 0 ∷ pos 0 ∷ pos 0 ∷ pos 0 ∷ pos 0 ∷ neg_ℤ (pos 5_000_000) ∷ pos 1_000_000 ∷ pos 0 ∷ pos 0 ∷ []) ∷ []
 unfolding listed powers below
 same-powers = refl
@@ -86,6 +86,6 @@ unfolding degrees listed powers below
 degrees-read = refl
 
 -- the first and the last of a group, then the same in the next group, in the next block and in the last one
-degrees-come-again : map (degreeAt gtm) (0 ∷ 9 ∷ 10 ∷ 20 ∷ 59 ∷ []) ≡ 0 ∷ 3 ∷ 0 ∷ 0 ∷ 3 ∷ []
-unfolding degrees listed powers below kindsLength
+degrees-come-again : map (degree_at gtm) (0 ∷ 9 ∷ 10 ∷ 20 ∷ 59 ∷ []) ≡ 0 ∷ 3 ∷ 0 ∷ 0 ∷ 3 ∷ []
+unfolding degrees listed powers below kinds_length
 degrees-come-again = refl

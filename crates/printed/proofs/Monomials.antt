@@ -17,7 +17,7 @@ use Rattle.polynomials.specs.Sum.{sum}
 use Rattle.polynomials.proofs.Semiring.{whole, ⊗-comm}
 use Rattle.layout.specs.Shape.{Shape, WellFormed}
 use Rattle.printed.specs.Notation.{Monomial}
-use Rattle.printed.specs.Values.{totalDegree, powerOf, product, degreeIn, monomialAt}
+use Rattle.printed.specs.Values.{total_degree, power_of, product, degree_in, monomial_at}
 
 -- ════ numbers of a list, against their sum
 abbrev added : List ℕ → ℕ
@@ -46,7 +46,7 @@ three-within (n ∷ l) (suc i) zero (suc k) a b c = omega (arith, two-within l i
 three-within (n ∷ l) (suc i) (suc j) zero a b c = omega (arith, two-within l i j (λ e. a (ap suc e)))
 three-within (n ∷ l) (suc i) (suc j) (suc k) a b c = omega (arith, three-within l i j k (λ e. a (ap suc e)) (λ e. b (ap suc e)) (λ e. c (ap suc e)))
 
-pub others-nil : (a : Monomial) (p q r : ℕ) → (r ≡ p → ⊥) → (r ≡ q → ⊥) → (p ≡ q → ⊥) → powerOf a p + powerOf a q ≡ totalDegree a → powerOf a r ≡ 0
+pub others-nil : (a : Monomial) (p q r : ℕ) → (r ≡ p → ⊥) → (r ≡ q → ⊥) → (p ≡ q → ⊥) → power_of a p + power_of a q ≡ total_degree a → power_of a r ≡ 0
 others-nil a p q r h k l e = omega (arith, three-within (a.alpha ∷ a.beta ∷ a.xi ∷ a.eta ∷ a.zeta ∷ []) r p q h k l)
 
 -- ════ products in which few factors count
@@ -78,9 +78,9 @@ module _ (f : ℕ → ℤ) where
 
 -- ════ a monomial in two variables of a shape
 pub monomial-own : (S : Shape) → WellFormed S → (x : ℕ → ℤ) (u v : ℕ) → u < S.variables → v < S.variables → (u ≡ v → ⊥) → (a : Monomial)
-    → degreeIn S a u + degreeIn S a v ≡ totalDegree a → monomialAt S a x ≡ pow (x u) (degreeIn S a u) *ℤ pow (x v) (degreeIn S a v)
+    → degree_in S a u + degree_in S a v ≡ total_degree a → monomial_at S a x ≡ pow (x u) (degree_in S a u) *ℤ pow (x v) (degree_in S a v)
 monomial-own S w x u v l m d a e =
-    product-two (λ i. pow (x i) (degreeIn S a i)) S.variables u v l m d (λ i b f g.
+    product-two (λ i. pow (x i) (degree_in S a i)) S.variables u v l m d (λ i b f g.
     ap (pow (x i)) (others-nil a (S.name u) (S.name v) (S.name i) (λ q. f (w.named i u b l q)) (λ q. g (w.named i v b m q)) (λ q. d (w.named u v l m q)) e) ∙ pow-zero (x i))
 
 -- ════ s times the readings

@@ -9,20 +9,20 @@ use borrow.Author.Tests.{eqb-true}
 use lib.Dec.{eqb}
 use lib.IntN.{ℤ, pos, nat_abs}
 use lib.ListN.{get_or}
-use Rattle.layout.specs.Shape.{Shape, limitsLength, blockLength, tableLength}
+use Rattle.layout.specs.Shape.{Shape, limits_length, block_length, table_length}
 use Rattle.layout.specs.Limits.{every}
 use Rattle.laws.proofs.Tests.{every-all}
-use Rattle.printed.specs.Values.{Angles, scaleIn}
-use Rattle.printed.specs.Stored.{Multiple, degreeAt}
+use Rattle.printed.specs.Values.{Angles, scale_in}
+use Rattle.printed.specs.Stored.{Multiple, degree_at}
 
 module _ (S : Shape) (A : Angles) (t : List ℤ) where
   -- at the place j behind the limits
-  abbrev pub isMultiple : ℕ → Bool
-  isMultiple j = eqb (nat_abs (get_or t (limitsLength S + j) (pos 0)) % scaleIn A (degreeAt S j)) 0
+  abbrev pub is_multiple : ℕ → Bool
+  is_multiple j = eqb (nat_abs (get_or t (limits_length S + j) (pos 0)) % scale_in A (degree_at S j)) 0
 
-  pub scaling : every (blockLength S * S.blocks) isMultiple ≡ true → (k : ℕ) → limitsLength S ≤ k → k < tableLength S
-      → Multiple (scaleIn A (degreeAt S (k - limitsLength S))) (get_or t k (pos 0))
+  pub scaling : every (block_length S * S.blocks) is_multiple ≡ true → (k : ℕ) → limits_length S ≤ k → k < table_length S
+      → Multiple (scale_in A (degree_at S (k - limits_length S))) (get_or t k (pos 0))
   scaling tested k h b =
-      let j = k - limitsLength S in
-      let e : limitsLength S + j ≡ k = omega arith in
-      rw e at (eqb-true (nat_abs (get_or t (limitsLength S + j) (pos 0)) % scaleIn A (degreeAt S j)) 0 (every-all (blockLength S * S.blocks) _ tested j (omega arith)))
+      let j = k - limits_length S in
+      let e : limits_length S + j ≡ k = omega arith in
+      rw e at (eqb-true (nat_abs (get_or t (limits_length S + j) (pos 0)) % scale_in A (degree_at S j)) 0 (every-all (block_length S * S.blocks) _ tested j (omega arith)))

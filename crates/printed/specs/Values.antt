@@ -11,12 +11,12 @@ pub record Angles : Type 0 where
   pub cut : ℕ
 
 -- ════ a monomial
-abbrev pub totalDegree : Monomial → ℕ
-totalDegree a = a.alpha + a.beta + a.xi + a.eta + a.zeta
+abbrev pub total_degree : Monomial → ℕ
+total_degree a = a.alpha + a.beta + a.xi + a.eta + a.zeta
 
 -- the power of alpha, beta, xi, eta or zeta, as they are numbered 0 to 4
-abbrev pub powerOf : Monomial → ℕ → ℕ
-powerOf a n = get_or (a.alpha ∷ a.beta ∷ a.xi ∷ a.eta ∷ a.zeta ∷ []) n 0
+abbrev pub power_of : Monomial → ℕ → ℕ
+power_of a n = get_or (a.alpha ∷ a.beta ∷ a.xi ∷ a.eta ∷ a.zeta ∷ []) n 0
 
 -- f 0 × f 1 × .. × f (n - 1)
 unfoldable pub product : ℕ → (ℕ → ℤ) → ℤ
@@ -25,24 +25,24 @@ product (suc n) f = product n f *ℤ f n
 
 module _ (S : Shape) where
   -- the power of a variable of the shape, by the name that it has
-  abbrev pub degreeIn : Monomial → ℕ → ℕ
-  degreeIn a i = powerOf a (S.name i)
+  abbrev pub degree_in : Monomial → ℕ → ℕ
+  degree_in a i = power_of a (S.name i)
 
   -- x has the readings of the variables
-  abbrev pub monomialAt : Monomial → (ℕ → ℤ) → ℤ
-  monomialAt a x = product S.variables (λ i. pow (x i) (degreeIn a i))
+  abbrev pub monomial_at : Monomial → (ℕ → ℤ) → ℤ
+  monomial_at a x = product S.variables (λ i. pow (x i) (degree_in a i))
 
 -- ════ a polynomial
 -- what a number of degree n is scaled by. Each of its n readings is so many times what it is in radians; the unit is 10⁻⁵ over the fourth power
-abbrev pub scaleIn : Angles → ℕ → ℕ
-scaleIn A n = A.radian ^ (4 - n)
+abbrev pub scale_in : Angles → ℕ → ℕ
+scale_in A n = A.radian ^ (4 - n)
 
 abbrev pub scaled : Angles → Term → ℤ
-scaled A t = t.number *ℤ pos (scaleIn A (totalDegree t.monomial))
+scaled A t = t.number *ℤ pos (scale_in A (total_degree t.monomial))
 
 -- the sum of the terms: each number, scaled, times the powers of the readings
 unfoldable pub at : Shape → Angles → Polynomial → (ℕ → ℤ) → ℤ
-at S A f x = summed (λ t. scaled A t *ℤ monomialAt S t.monomial x) f
+at S A f x = summed (λ t. scaled A t *ℤ monomial_at S t.monomial x) f
 
 -- ════ a coefficient
 -- of the values of its groups, from the group numbered n on, those that count in a piece, together

@@ -19,7 +19,7 @@ use lib.ListN.{length, length-append}
 use mir.Syntax.{w64}
 use mir.Val.{SFits}
 use Rattle.printing.specs.Groups.{four, eight}
-use Rattle.printing.specs.Spell.{digits, decimal, spell, longestNumber}
+use Rattle.printing.specs.Spell.{digits, decimal, spell, longest_number}
 
 -- any bound that is large enough gives the same digits
 digits-turns : (f g n : ℕ) → n ≤ f → n ≤ g → digits f n ≡ digits g n
@@ -142,9 +142,9 @@ decimal-short zero n h = omega (arith, length-one n h)
 decimal-short (suc k) n h = short-more k n (decimal-short k) h (leb 10 n) refl
 
 -- ════ numbers of 64 bits
-pub decimal-fits : (n : ℕ) → n < 2 ^ 64 → length (decimal n) ≤ longestNumber
+pub decimal-fits : (n : ℕ) → n < 2 ^ 64 → length (decimal n) ≤ longest_number
 decimal-fits n h = decimal-short 19 n (omega arith)
 
-pub spell-fits : (x : ℤ) → SFits w64 x → length (spell x) ≤ longestNumber
+pub spell-fits : (x : ℤ) → SFits w64 x → length (spell x) ≤ longest_number
 spell-fits (pos n) f = decimal-fits n (omega (arith, f.sfits))
 spell-fits (negsuc n) f = let digits = decimal-short 18 (suc n) (omega (arith, f.sfits)) in omega arith

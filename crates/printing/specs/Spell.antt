@@ -18,8 +18,8 @@ spell (pos n) = decimal n
 spell (negsuc n) = 45 ∷ decimal (suc n)
 
 -- how many bytes a number of 64 bits takes at most: a minus and 19 digits, or 20 digits
-abbrev pub longestNumber : ℕ
-longestNumber = 20
+abbrev pub longest_number : ℕ
+longest_number = 20
 
 -- an output that holds bytes from a place on, and is otherwise as it was
 abbrev pub written : List ℕ → ℕ → List ℕ → List ℕ

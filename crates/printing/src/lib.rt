@@ -2,7 +2,7 @@
 ghost use Rattle.std.specs.Prelude.{◌≡◌, [], ◌∷◌, ◌+◌, ◌*◌, ◌/◌, ◌%◌, ◌<◌, ◌≤◌, length};
 ghost use Rattle.std.proofs.lemmas.List.Edits.{sets};
 ghost use Rattle.printing.specs.Groups.{four, eight, pairs, packed, unpacked};
-ghost use Rattle.printing.specs.Spell.{decimal, spell, longestNumber, written};
+ghost use Rattle.printing.specs.Spell.{decimal, spell, longest_number, written};
 
 // How many bytes a number takes at most: the least i64 has a minus and 19 digits, the greatest u64 has 20.
 pub const LONGEST_NUMBER: usize = 20;
@@ -152,7 +152,7 @@ pub fn put_digits(n: u64, out: &mut [u8], at: usize) -> usize
 
 // A number from the place `at` on; gives the place behind it. The digits are put in one place for either sign, so that the code for them is there once.
 pub fn put_number(x: i64, out: &mut [u8], at: usize) -> usize
-    requires { at + longestNumber ≤ length out.old }
+    requires { at + longest_number ≤ length out.old }
     ensures place { result ≡ at + length (spell x) }
     ensures output { out.new ≡ written out.old at (spell x) }
 {

@@ -1,6 +1,6 @@
--- The promises, sentence by sentence. Each is about the definitions that the contracts cite: what an operation gives back is `readNumber`, `moveNumber`
--- or `publishNumber`, and what its lent space holds afterwards `readOutput`, `moveOutput` or `publishOutput`; many states are
--- given `manyNumber`, `manyNumbers` and `manyOutput`; the float door answers `doorNumber`, `doorReading` and `doorValue`, and the program writes `trimcard`. That every call ends and meets this is proved of the code; `Tight` says that it
+-- The promises, sentence by sentence. Each is about the definitions that the contracts cite: what an operation gives back is `read_number`, `move_number`
+-- or `publish_number`, and what its lent space holds afterwards `read_output`, `move_output` or `publish_output`; many states are
+-- given `many_number`, `many_numbers` and `many_output`; the float door answers `door_number`, `door_reading` and `door_value`, and the program writes `trimcard`. That every call ends and meets this is proved of the code; `Tight` says that it
 -- leaves no choice. `A ↔ B` is: if A then B, and if B then A. Assumes nothing.
 -- Four stand-ins that these shut out: one that refuses everything (`publish-publishes`, `published-refuses-the-outside`, `move-accepted-exactly`), one that
 -- gives a fixed answer and one that works out X alone (`published-answers-the-print`, over all six), and a move that copies the table (`moved-answers-as-before`).

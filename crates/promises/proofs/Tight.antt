@@ -25,7 +25,7 @@ use Rattle.polynomials.specs.declared.Reach.{Reach}
 use Rattle.layout.specs.declared.Model.{Model}
 use Rattle.limits.specs.declared.Limits.{Limits}
 use Rattle.printing.specs.Spell.{written}
-use Rattle.answers.specs.Reading.{readingsAfter, answersOf, Feeding}
+use Rattle.answers.specs.Reading.{readings_after, answers_of, Feeding}
 use Rattle.answers.specs.declared.Reading.{Reading}
 use Rattle.answers.specs.declared.Fed.{Fed}
 use Rattle.whole.proofs as whole
@@ -344,9 +344,9 @@ module _ {t : List ℤ} {r : Reading} {input out : List ℕ} where
   same-fed : {out₁ out₂ : List ℕ} {f g : Fed} → Feeding t r input out out₁ f → Feeding t r input out out₂ g → (f ≡ g) × (out₁ ≡ out₂)
   same-fed {f = f} {g} p q =
       let e = same_taken p q in
-      let a : f.reading ≡ g.reading = p.reading ∙ ap (λ n. readingsAfter r (take n input)) e ∙ sym q.reading in
-      let b : f.put ≡ g.put = p.place ∙ ap (λ n. length (answersOf t r (take n input))) e ∙ sym q.place in
-      ((λ i. record { reading = a i; taken = e i; put = b i }), p.output ∙ ap (λ n. written out 0 (answersOf t r (take n input))) e ∙ sym q.output)
+      let a : f.reading ≡ g.reading = p.reading ∙ ap (λ n. readings_after r (take n input)) e ∙ sym q.reading in
+      let b : f.put ≡ g.put = p.place ∙ ap (λ n. length (answers_of t r (take n input))) e ∙ sym q.place in
+      ((λ i. record { reading = a i; taken = e i; put = b i }), p.output ∙ ap (λ n. written out 0 (answers_of t r (take n input))) e ∙ sym q.output)
 
 pub reading-fresh-tight : Tight answers.Reading.fresh.ended answers.Reading.fresh.Reads.Post
 reading-fresh-tight κs a o p = tight o p (search same)

@@ -28,10 +28,10 @@ module _ (f : Format) where
   unfolding round
   round_number s n d = units_number s _ _
 
-  ofInt-number : (z : ℤ) → is_nan (of_int f z) ≡ false
+  of_int-number : (z : ℤ) → is_nan (of_int f z) ≡ false
   unfolding of_int
-  ofInt-number (pos n) = round_number false n 1
-  ofInt-number (negsuc n) = round_number true (suc n) 1
+  of_int-number (pos n) = round_number false n 1
+  of_int-number (negsuc n) = round_number true (suc n) 1
 
   -- a quotient by a finite number that is not zero
   div-number : (x : Float) (t : Bool) (n : ℕ) (d : ℤ) → is_nan x ≡ false → eqb n 0 ≡ false → is_nan (div f x (fin t n d)) ≡ false
@@ -49,4 +49,4 @@ divisor = refl
 
 pub never-nan : (z : ℤ) → is_nan (float_of z) ≡ false
 unfolding float_of
-never-nan z = ap (λ y. is_nan (div binary64 (of_int binary64 z) y)) divisor ∙ div-number binary64 (of_int binary64 z) false (5 ^ 17) (pos 17) (ofInt-number binary64 z) refl
+never-nan z = ap (λ y. is_nan (div binary64 (of_int binary64 z) y)) divisor ∙ div-number binary64 (of_int binary64 z) false (5 ^ 17) (pos 17) (of_int-number binary64 z) refl

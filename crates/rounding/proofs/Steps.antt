@@ -9,7 +9,7 @@ use lib.Signed.{le_z, le_z_yes, clash_ℤ}
 use lib.Ieee.{Float, nan, inf, fin}
 use lib.Ieee.Scale.{finite}
 use Rattle.whole.proofs.Order.{≤ℤ-or-<ℤ}
-use Rattle.whole.specs.Nearest.{nearestAway}
+use Rattle.whole.specs.Nearest.{nearest_away}
 use Rattle.rounding.specs.Reading.{whole_of, step_of}
 use Rattle.rounding.specs.declared.Step.{Step}
 use Rattle.rounding.specs.declared.Step.TheVariants.{Whole, NotFinite, Outside}
@@ -37,7 +37,7 @@ step_is (inf s) lowest highest = refl
 step_is (fin s m e) lowest highest = refl
 
 pub zero-step : (s : Bool) (lowest highest : ℤ) → le_z lowest (pos 0) && le_z (pos 0) highest ≡ true → step_of (fin s 0 (pos 0)) lowest highest ≡ Whole (pos 0)
-unfolding step_of whole_of nearestAway
+unfolding step_of whole_of nearest_away
 zero-step false lowest highest e = ap (λ b. cond b (Whole (pos 0)) (Outside (fin false 0 (pos 0)))) e
 zero-step true lowest highest e = ap (λ b. cond b (Whole (pos 0)) (Outside (fin true 0 (pos 0)))) e
 

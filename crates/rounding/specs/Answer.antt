@@ -4,9 +4,9 @@ use Rattle.std.specs.Float.{binary64}
 use Rattle.std.specs.Float.Ieee.{div, of_int}
 
 -- the f64 nearest to a whole number, a half to the even one
-abbrev pub nearestEven : ℤ → Float
-nearestEven z = of_int binary64 z
+abbrev pub nearest_even : ℤ → Float
+nearest_even z = of_int binary64 z
 
 -- divided once by 10¹⁷, and the quotient rounded by the same rule
 unfoldable pub float_of : ℤ → Float
-float_of z = div binary64 (nearestEven z) (nearestEven (pos (10 ^ 17)))
+float_of z = div binary64 (nearest_even z) (nearest_even (pos (10 ^ 17)))

@@ -1,14 +1,14 @@
 -- What one f64 is read as, within a lowest and a highest whole number. A reading is rounded with a half away from zero; `Answer` rounds otherwise.
 use Rattle.std.specs.Prelude.{cond, ◌&&◌, ℤ, int_le, Float}
 use Rattle.std.specs.Float.{nan, inf, fin}
-use Rattle.whole.specs.Nearest.{nearestAway}
+use Rattle.whole.specs.Nearest.{nearest_away}
 use Rattle.rounding.specs.Value.{numerator, denominator}
 use Rattle.rounding.specs.declared.Step.{Step}
 use Rattle.rounding.specs.declared.Step.TheVariants.{Whole, NotFinite, Outside}
 
 -- the whole number nearest to a finite x, a half away from zero
 unfoldable pub whole_of : Float → ℤ
-whole_of x = nearestAway (denominator x) (numerator x)
+whole_of x = nearest_away (denominator x) (numerator x)
 
 -- the nearest whole number where it lies within the limits, and otherwise x as given
 unfoldable pub step_of : Float → ℤ → ℤ → Step

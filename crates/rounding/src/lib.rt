@@ -3,9 +3,9 @@ ghost use Rattle.std.specs.Prelude.{◌≡◌, ◌+◌, ◌*◌, ◌≤◌, fals
 ghost use Rattle.std.specs.Float.Ieee.Exact.{HasValue};
 ghost use Rattle.std.specs.Float.Ieee.Positive.{num, den, positive};
 ghost use Rattle.std.specs.Float.Ieee.Scale.{finite};
-ghost use Rattle.whole.specs.Nearest.{nearestUp};
+ghost use Rattle.whole.specs.Nearest.{nearest_up};
 ghost use Rattle.rounding.specs.Reading.{whole_of, step_of};
-ghost use Rattle.rounding.specs.Ready.{farthestEnd, farthestNear, Near};
+ghost use Rattle.rounding.specs.Ready.{farthest_end, farthest_near, Near};
 ghost use Rattle.rounding.specs.Answer.{float_of};
 
 // What one float reading is, within a lowest and a highest whole number.
@@ -23,7 +23,7 @@ const LEAST_NEAR: f64 = -MOST_NEAR;
 
 // q and a half, which an f64 holds exactly.
 fn half_above(q: u64) -> f64
-    requires { q ≤ farthestNear }
+    requires { q ≤ farthest_near }
     ensures { HasValue result false (2 * q + 1) 2 }
 {
     ((2 * q + 1) as f64) * 0.5
@@ -32,8 +32,8 @@ fn half_above(q: u64) -> f64
 // The whole number nearest to a, by the side of the half above its whole part; the half itself goes up.
 fn nearest_magnitude(a: f64) -> u64
     requires fact_1 { T (positive a) }
-    requires fact_2 { num a ≤ farthestNear * den a }
-    ensures { result ≡ nearestUp (den a) (num a) }
+    requires fact_2 { num a ≤ farthest_near * den a }
+    ensures { result ≡ nearest_up (den a) (num a) }
 {
     let q = std::num::truncating_f64_to_u64(a);
     if a < half_above(q) { q } else { q + 1 }
@@ -62,8 +62,8 @@ fn is_finite(x: f64) -> bool
 
 // The nearest whole number to x where it lies within the limits; a float that is not near lies outside of any.
 pub fn step_of(x: f64, lowest: i64, highest: i64) -> Step
-    requires fact_1 { unsigned_abs lowest ≤ farthestEnd }
-    requires fact_2 { unsigned_abs highest ≤ farthestEnd }
+    requires fact_1 { unsigned_abs lowest ≤ farthest_end }
+    requires fact_2 { unsigned_abs highest ≤ farthest_end }
     ensures { result ≡ step_of x lowest highest }
 {
     if !is_finite(x) {

@@ -3,7 +3,7 @@
 mod uses;
 
 ghost use Rattle.std.specs.Prelude.{◌≤◌};
-ghost use Rattle.texts.specs.Room.{answersRoom};
+ghost use Rattle.texts.specs.Room.{answers_room};
 
 use commands::{Command, command_of};
 use operations::operate;
@@ -48,7 +48,7 @@ pub fn answer(
     out: &mut [u8; OUT],
     at: usize,
 ) -> usize
-    ensures { result ≤ answersRoom }
+    ensures { result ≤ answers_room }
 {
     let end = answered(line, held, spaces, out, at);
     put_byte(b'\n', out, end)

@@ -1,8 +1,8 @@
 // What the tables of each model look like, by the numbers of `layout`. Who knows a model asks here; nobody else has cases over the models.
 ghost use Rattle.std.specs.Prelude.{◌≡◌, ◌≤◌, ◌<◌, length};
-ghost use Rattle.polynomials.specs.Limits.{highestDegree};
+ghost use Rattle.polynomials.specs.Limits.{highest_degree};
 ghost use Rattle.polynomials.specs.Order.{size};
-ghost use Rattle.layout.specs.Shape.{shape, kind_at, fineCuts, limitsLength, blockLength, blockStart, tableLength, cumulus, gtm};
+ghost use Rattle.layout.specs.Shape.{shape, kind_at, fine_cuts, limits_length, block_length, block_start, table_length, cumulus, gtm};
 ghost use Rattle.layout.specs.Refusals.{outside};
 
 use layout::refusals::OUTSIDE;
@@ -40,7 +40,7 @@ pub fn groups(model: Model) -> usize
 
 // How many fine cuts variable 0 has: one, or none.
 pub fn fine_cuts(model: Model) -> usize
-    ensures { result ≡ fineCuts (shape model) }
+    ensures { result ≡ fine_cuts (shape model) }
 {
     match model {
         Model::Cumulus => cumulus_one::FINE_CUTS,
@@ -50,14 +50,14 @@ pub fn fine_cuts(model: Model) -> usize
 
 // Whether it has one.
 pub fn has_fine_cut(model: Model) -> bool
-    ensures { result ≡ (shape model).hasFineCut }
+    ensures { result ≡ (shape model).has_fine_cut }
 {
     fine_cuts(model) > 0
 }
 
 // How many numbers the limits are, which come first in a table.
 pub fn limits(model: Model) -> usize
-    ensures { result ≡ limitsLength (shape model) }
+    ensures { result ≡ limits_length (shape model) }
 {
     match model {
         Model::Cumulus => cumulus_one::LIMITS,
@@ -67,7 +67,7 @@ pub fn limits(model: Model) -> usize
 
 // How many numbers a block has.
 pub fn block(model: Model) -> usize
-    ensures { result ≡ blockLength (shape model) }
+    ensures { result ≡ block_length (shape model) }
 {
     match model {
         Model::Cumulus => cumulus_one::BLOCK,
@@ -77,7 +77,7 @@ pub fn block(model: Model) -> usize
 
 // How many numbers a table has.
 pub fn table(model: Model) -> usize
-    ensures { result ≡ tableLength (shape model) }
+    ensures { result ≡ table_length (shape model) }
 {
     match model {
         Model::Cumulus => cumulus_one::TABLE,
@@ -88,7 +88,7 @@ pub fn table(model: Model) -> usize
 // Where a block starts.
 pub fn start(model: Model, index: usize) -> usize
     requires { index < (shape model).blocks }
-    ensures { result ≡ blockStart (shape model) index }
+    ensures { result ≡ block_start (shape model) index }
 {
     limits(model) + block(model) * index
 }
@@ -106,7 +106,7 @@ pub fn outside(model: Model, variable: usize) -> u64
 
 // How many numbers a group of a kind has: of degree 0, 1 and so on, one more for each.
 pub fn size(kind: Kind) -> usize
-    requires { kind.degree ≤ highestDegree }
+    requires { kind.degree ≤ highest_degree }
     ensures { result ≡ size kind.degree }
 {
     let n = kind.degree + 1;

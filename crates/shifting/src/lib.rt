@@ -3,9 +3,9 @@ ghost use Rattle.std.specs.Prelude.{◌≡◌, ◌+◌, ◌^◌, ◌≤◌, ◌<
 ghost use Rattle.polynomials.specs.Numbers.{ints};
 ghost use Rattle.polynomials.specs.Sum.{listed};
 ghost use Rattle.polynomials.specs.Order.{place};
-ghost use Rattle.polynomials.specs.Binomial.{multipliedOut, multipliedRows, shiftIn};
-ghost use Rattle.polynomials.specs.Group.{own, movedNumber, moved};
-ghost use Rattle.polynomials.specs.Limits.{farthest, highestDegree};
+ghost use Rattle.polynomials.specs.Binomial.{multiplied_out, multiplied_rows, shift_in};
+ghost use Rattle.polynomials.specs.Group.{own, moved_number, moved};
+ghost use Rattle.polynomials.specs.Limits.{farthest, highest_degree};
 ghost use Rattle.polynomials.specs.Ready.{Movable};
 ghost use Rattle.polynomials.specs.declared.Variable.TheVariants.{First, Second};
 
@@ -22,8 +22,8 @@ const BINOMIALS: [[i64; 5]; 5] = [
 
 // (v + s)^k multiplied out: at p what stands before v^p.
 fn multiplied_row(s: i64, k: usize) -> [i64; 5]
-    requires { (nat_abs s ≤ farthest) × (k ≤ highestDegree) }
-    ensures { result ≡ listed 5 (multipliedOut ints s k) }
+    requires { (nat_abs s ≤ farthest) × (k ≤ highest_degree) }
+    ensures { result ≡ listed 5 (multiplied_out ints s k) }
 {
     let mut row = BINOMIALS[k];
     let mut power: i64 = 1;
@@ -39,7 +39,7 @@ fn multiplied_row(s: i64, k: usize) -> [i64; 5]
 // The powers 0 to 4 of v + s multiplied out, a row for each.
 pub fn multiplied_out(s: i64) -> [[i64; 5]; 5]
     requires { nat_abs s ≤ farthest }
-    ensures { result ≡ multipliedRows s }
+    ensures { result ≡ multiplied_rows s }
 {
     [
         multiplied_row(s, 0),
@@ -82,9 +82,9 @@ fn moved_number(
     rows: &[[i64; 5]; 5],
 ) -> i64
     ghost s: { ℤ }
-    requires rows_value { shiftIn rows.now ≡ s }
-    requires rows_value_2 { (rows.now ≡ multipliedRows s) × (Movable which s from.now × ((at ≡ place (own which p beside) (own which beside p)) × (at < length from.now))) }
-    ensures { result ≡ movedNumber ints which s from.now (own which p beside) (own which beside p) }
+    requires rows_value { shift_in rows.now ≡ s }
+    requires rows_value_2 { (rows.now ≡ multiplied_rows s) × (Movable which s from.now × ((at ≡ place (own which p beside) (own which beside p)) × (at < length from.now))) }
+    ensures { result ≡ moved_number ints which s from.now (own which p beside) (own which beside p) }
 {
     let mut sum: i64 = 0;
     let mut i = at;
@@ -101,8 +101,8 @@ fn moved_number(
 // differ only in the power of the variable, beside the power 0 of the other, beside its power 1, and so on.
 pub fn move_group(from: &[i64], out: &mut [i64], which: Variable, rows: &[[i64; 5]; 5])
     ghost s: { ℤ }
-    requires rows_value { shiftIn rows.now ≡ s }
-    requires rows_value_2 { (rows.now ≡ multipliedRows s) × (Movable which s from.now × (length out.old ≡ length from.now)) }
+    requires rows_value { shift_in rows.now ≡ s }
+    requires rows_value_2 { (rows.now ≡ multiplied_rows s) × (Movable which s from.now × (length out.old ≡ length from.now)) }
     ensures { out.new ≡ moved which s from.now }
 {
     let mut beside: usize = 0;

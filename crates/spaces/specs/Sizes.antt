@@ -1,8 +1,8 @@
 -- The sizes of the spaces: the numbers that one has room for, and those of all ten with their lengths.
 use Rattle.std.specs.Prelude.{ℕ}
 
-abbrev pub spaceRoom : ℕ
-spaceRoom = 320
+abbrev pub space_room : ℕ
+space_room = 320
 
-abbrev pub allSpaces : ℕ
-allSpaces = 3210
+abbrev pub all_spaces : ℕ
+all_spaces = 3210

@@ -1,6 +1,6 @@
 // The spaces, one behind the other: each is its length and room for its numbers.
 ghost use Rattle.std.specs.Prelude.{◌+◌, ◌≤◌};
-ghost use Rattle.spaces.specs.Sizes.{allSpaces, spaceRoom};
+ghost use Rattle.spaces.specs.Sizes.{all_spaces, space_room};
 
 use texts::least;
 
@@ -14,13 +14,13 @@ pub const ALL: usize = SPACES * SPACE;
 
 // Where the length of a space stands; its numbers stand behind it.
 pub fn place_of(space: u64) -> usize
-    ensures { result + (1 + spaceRoom) ≤ allSpaces }
+    ensures { result + (1 + space_room) ≤ all_spaces }
 {
     least(space as usize, SPACES - 1) * SPACE
 }
 
 pub fn length_of(space: u64, spaces: &[i64; ALL]) -> usize
-    ensures { result ≤ spaceRoom }
+    ensures { result ≤ space_room }
 {
     let length = spaces[place_of(space)];
     least(whole::magnitude(length) as usize, ROOM)
@@ -28,7 +28,7 @@ pub fn length_of(space: u64, spaces: &[i64; ALL]) -> usize
 
 // Where the numbers of a space start.
 pub fn start_of(space: u64) -> usize
-    ensures { result + spaceRoom ≤ allSpaces }
+    ensures { result + space_room ≤ all_spaces }
 {
     place_of(space) + 1
 }

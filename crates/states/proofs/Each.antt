@@ -15,21 +15,21 @@ use lib.IntN.{ℤ, pos}
 use lib.ListN.{length, take, drop, set, length-set, get_or-eq_default}
 use lib.Seq.{take_all, drop-drop}
 use Rattle.polynomials.specs.Sum.{listed}
-use Rattle.polynomials.proofs.Listed.{length-listed, getD-listed, listed_more, listed-all}
-use Rattle.layout.specs.Numbers.{variablesRoom}
+use Rattle.polynomials.proofs.Listed.{length-listed, get_or-listed, listed_more, listed-all}
+use Rattle.layout.specs.Numbers.{variables_room}
 use Rattle.layout.specs.Reading.{readings}
 use Rattle.layout.specs.Moving.{joined}
 use Rattle.blocks.specs.Ready.{placed}
 use Rattle.blocks.proofs.Filled.{length-placed, take-placed}
 
 -- the readings by value are the state's
-pub readings-held : (x : List ℤ) → length x ≤ variablesRoom → readings (listed variablesRoom (readings x)) ≡ readings x
-readings-held x h = fun_ext (λ i. pick i (dec_lt i variablesRoom))
+pub readings-held : (x : List ℤ) → length x ≤ variables_room → readings (listed variables_room (readings x)) ≡ readings x
+readings-held x h = fun_ext (λ i. pick i (dec_lt i variables_room))
   where
-    pick : (i : ℕ) → Dec (i < variablesRoom) → readings (listed variablesRoom (readings x)) i ≡ readings x i
-    pick i (yes b) = getD-listed variablesRoom (readings x) i (pos 0) b
+    pick : (i : ℕ) → Dec (i < variables_room) → readings (listed variables_room (readings x)) i ≡ readings x i
+    pick i (yes b) = get_or-listed variables_room (readings x) i (pos 0) b
     pick i (no b) =
-        get_or-eq_default (listed variablesRoom (readings x)) (pos 0) (omega (arith, length-listed variablesRoom (readings x)))
+        get_or-eq_default (listed variables_room (readings x)) (pos 0) (omega (arith, length-listed variables_room (readings x)))
         ∙ sym (get_or-eq_default x (pos 0) (omega arith))
 
 -- w * k + w of w * n

@@ -2,10 +2,10 @@
 ghost use Rattle.std.specs.Prelude.{◌≡◌, ◌*◌, ◌<◌, eqb, pos, length};
 ghost use Rattle.polynomials.specs.Sum.{listed};
 ghost use Rattle.layout.specs.Shape.{shape};
-ghost use Rattle.layout.specs.Numbers.{variablesRoom};
-ghost use Rattle.layout.specs.Reading.{readings, readNumber, readOutput};
+ghost use Rattle.layout.specs.Numbers.{variables_room};
+ghost use Rattle.layout.specs.Reading.{readings, read_number, read_output};
 ghost use Rattle.layout.specs.Moving.{joined};
-ghost use Rattle.layout.specs.Many.{zeros, number_at, outputAt, manyNumber, manyNumbers, manyOutput};
+ghost use Rattle.layout.specs.Many.{zeros, number_at, output_at, many_number, many_numbers, many_output};
 ghost use Rattle.tables.specs.Ready.{SoundRead};
 ghost use Rattle.states.specs.Ready.{SoundReads};
 
@@ -44,7 +44,7 @@ fn reading_of(state: &[i64], variable: usize) -> i64
 
 // The readings of a state by value.
 fn held(state: &[i64]) -> [i64; VARIABLES_ROOM]
-    ensures { result ≡ listed variablesRoom (readings state.now) }
+    ensures { result ≡ listed variables_room (readings state.now) }
 {
     let mut held: [i64; VARIABLES_ROOM] = [0; VARIABLES_ROOM];
     let mut i: usize = 0;
@@ -59,8 +59,8 @@ fn held(state: &[i64]) -> [i64; VARIABLES_ROOM]
 // Reads one state of a sound table into zeros.
 fn read_cleared(model: Model, table: &[i64], state: [i64; VARIABLES_ROOM], out: &mut [i64]) -> u64
     requires { SoundRead (shape model) table.now out.old }
-    ensures number { result ≡ readNumber (shape model) table.now (readings state) (zeros (shape model)) }
-    ensures output { out.new ≡ readOutput (shape model) table.now (readings state) (zeros (shape model)) }
+    ensures number { result ≡ read_number (shape model) table.now (readings state) (zeros (shape model)) }
+    ensures output { out.new ≡ read_output (shape model) table.now (readings state) (zeros (shape model)) }
 {
     clear(out);
     read_sound(model, table, state, out)
@@ -70,7 +70,7 @@ fn read_cleared(model: Model, table: &[i64], state: [i64; VARIABLES_ROOM], out: 
 fn read_each(model: Model, table: &[i64], states: &[i64], numbers: &mut [u64], out: &mut [i64])
     requires { SoundReads (shape model) table.now states.now (length numbers.old) out.old }
     ensures numbers { numbers.new ≡ listed (length numbers.old) (number_at (shape model) table.now states.now) }
-    ensures output { out.new ≡ joined (length numbers.old) (outputAt (shape model) table.now states.now) }
+    ensures output { out.new ≡ joined (length numbers.old) (output_at (shape model) table.now states.now) }
 {
     let variables = shapes::variables(model);
     let blocks = shapes::blocks(model);
@@ -98,9 +98,9 @@ pub fn read_many(
     numbers: &mut [u64],
     out: &mut [i64],
 ) -> u64
-    ensures number { result ≡ manyNumber (shape model) table.now states.now numbers.old out.old }
-    ensures numbers { numbers.new ≡ manyNumbers (shape model) table.now states.now numbers.old out.old }
-    ensures output { out.new ≡ manyOutput (shape model) table.now states.now numbers.old out.old }
+    ensures number { result ≡ many_number (shape model) table.now states.now numbers.old out.old }
+    ensures numbers { numbers.new ≡ many_numbers (shape model) table.now states.now numbers.old out.old }
+    ensures output { out.new ≡ many_output (shape model) table.now states.now numbers.old out.old }
 {
     if table.len() != shapes::table(model) {
         return WRONG_TABLE;

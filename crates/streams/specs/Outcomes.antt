@@ -8,9 +8,9 @@ abbrev pub passes : ℤ → Bool
 passes (pos n) = eqb n 4 || eqb n 11
 passes (negsuc n) = false
 
-abbrev pub outcomeOf : ℤ → ℤ → Outcome
-outcomeOf (pos n) error = Moved n
-outcomeOf (negsuc n) error = cond (passes error) Again Failed
+abbrev pub outcome_of : ℤ → ℤ → Outcome
+outcome_of (pos n) error = Moved n
+outcome_of (negsuc n) error = cond (passes error) Again Failed
 
 -- some of n bytes were moved, or none could be
 abbrev pub Got : ℕ → Outcome → Type 0

@@ -1,7 +1,7 @@
 // Reading and writing that try again where a signal interrupted the call, or where it would have had to wait. Of C's calls none is
 // declared that waits until a stream is ready, so before the next try the processor is left to whoever else wants it.
 ghost use Rattle.std.specs.Prelude.{◌≡◌, length};
-ghost use Rattle.streams.specs.Outcomes.{outcomeOf, Got, Put};
+ghost use Rattle.streams.specs.Outcomes.{outcome_of, Got, Put};
 
 use libc::{EAGAIN, EINTR};
 
@@ -15,7 +15,7 @@ pub enum Outcome {
 
 // What the answer of C's `read` or `write` comes to. The error tells why an answer is below 0.
 fn comes_to(answer: isize, error: i32) -> Outcome
-    ensures { result ≡ outcomeOf answer error }
+    ensures { result ≡ outcome_of answer error }
 {
     if answer >= 0 {
         return Outcome::Moved(answer as usize);

@@ -1,14 +1,14 @@
 // Publishing a table.
 ghost use Rattle.std.specs.Prelude.{◌≡◌};
-ghost use Rattle.layout.specs.Publishing.{publishNumber, publishOutput};
+ghost use Rattle.layout.specs.Publishing.{publish_number, publish_output};
 
 use blocks::copy;
 use layout::refusals::{DONE, WRONG_OUTPUT};
 
 // Writes a table to `out`, or refuses where `out` has another length and leaves it as it was.
 pub fn publish(table: &[i64], out: &mut [i64]) -> u64
-    ensures number { result ≡ publishNumber table.now out.old }
-    ensures output { out.new ≡ publishOutput table.now out.old }
+    ensures number { result ≡ publish_number table.now out.old }
+    ensures output { out.new ≡ publish_output table.now out.old }
 {
     if out.len() != table.len() {
         return WRONG_OUTPUT;

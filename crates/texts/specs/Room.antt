@@ -1,5 +1,5 @@
 -- The room for answers, in bytes.
 use Rattle.std.specs.Prelude.{ℕ}
 
-abbrev pub answersRoom : ℕ
-answersRoom = 65536
+abbrev pub answers_room : ℕ
+answers_room = 65536

@@ -1,8 +1,8 @@
 // Texts in rooms of a fixed size: the bytes of a line as they come, and the parts of an answer, each written from a place on. Each part
 // gives the place behind it, and what has no room is cut off.
 ghost use Rattle.std.specs.Prelude.{◌≡◌, ◌≤◌, min};
-ghost use Rattle.texts.specs.Held.{heldAfter, lineAfter};
-ghost use Rattle.texts.specs.Room.{answersRoom};
+ghost use Rattle.texts.specs.Held.{held_after, line_after};
+ghost use Rattle.texts.specs.Room.{answers_room};
 
 // The room for answers.
 pub const OUT: usize = 65536;
@@ -12,8 +12,8 @@ pub const LINE: usize = 256;
 
 // One byte more of a line; gives how many are held, one more than there is room for where the line is too long.
 pub fn hold(byte: u8, line: &mut [u8; LINE], held: usize) -> usize
-    ensures value { result ≡ heldAfter held }
-    ensures line_after { line.new ≡ lineAfter line.old held byte }
+    ensures value { result ≡ held_after held }
+    ensures line_after { line.new ≡ line_after line.old held byte }
 {
     if held >= LINE {
         return LINE + 1;
@@ -32,7 +32,7 @@ pub fn least(a: usize, b: usize) -> usize
 }
 
 pub fn put_text(text: &[u8], out: &mut [u8; OUT], at: usize) -> usize
-    ensures { result ≤ answersRoom }
+    ensures { result ≤ answers_room }
 {
     let start = least(at, OUT);
     let count = least(text.len(), OUT - start);
@@ -45,7 +45,7 @@ pub fn put_text(text: &[u8], out: &mut [u8; OUT], at: usize) -> usize
 }
 
 pub fn put_byte(byte: u8, out: &mut [u8; OUT], at: usize) -> usize
-    ensures { result ≤ answersRoom }
+    ensures { result ≤ answers_room }
 {
     if at >= OUT {
         return OUT;
@@ -55,7 +55,7 @@ pub fn put_byte(byte: u8, out: &mut [u8; OUT], at: usize) -> usize
 }
 
 pub fn put_natural(n: u64, out: &mut [u8; OUT], at: usize) -> usize
-    ensures { result ≤ answersRoom }
+    ensures { result ≤ answers_room }
 {
     let mut digits = [0u8; 20];
     let count = io::decimal(n, &mut digits);
@@ -63,7 +63,7 @@ pub fn put_natural(n: u64, out: &mut [u8; OUT], at: usize) -> usize
 }
 
 fn put_signed(x: i64, out: &mut [u8; OUT], at: usize) -> usize
-    ensures { result ≤ answersRoom }
+    ensures { result ≤ answers_room }
 {
     let size = whole::magnitude(x);
     if x < 0 {
@@ -75,7 +75,7 @@ fn put_signed(x: i64, out: &mut [u8; OUT], at: usize) -> usize
 
 // A natural number behind a text.
 pub fn put_named(text: &[u8], n: u64, out: &mut [u8; OUT], at: usize) -> usize
-    ensures { result ≤ answersRoom }
+    ensures { result ≤ answers_room }
 {
     let next = put_text(text, out, at);
     put_natural(n, out, next)
@@ -83,7 +83,7 @@ pub fn put_named(text: &[u8], n: u64, out: &mut [u8; OUT], at: usize) -> usize
 
 // A space and a bit pattern.
 pub fn put_bits(pattern: u64, out: &mut [u8; OUT], at: usize) -> usize
-    ensures { result ≤ answersRoom }
+    ensures { result ≤ answers_room }
 {
     let mut digits = [0u8; 16];
     let count = io::hex(pattern, 1, &mut digits);
@@ -93,7 +93,7 @@ pub fn put_bits(pattern: u64, out: &mut [u8; OUT], at: usize) -> usize
 
 // A number, and a space before it where it is not the first.
 fn put_number(x: i64, is_first: bool, out: &mut [u8; OUT], at: usize) -> usize
-    ensures { result ≤ answersRoom }
+    ensures { result ≤ answers_room }
 {
     if is_first {
         return put_signed(x, out, at);
@@ -110,7 +110,7 @@ pub fn put_numbers(
     out: &mut [u8; OUT],
     at: usize,
 ) -> usize
-    ensures { result ≤ answersRoom }
+    ensures { result ≤ answers_room }
 {
     let stop = least(end, numbers.len());
     let mut put = least(at, OUT);

@@ -14,7 +14,7 @@ use lib.Ieee.Bits.{of_bits-to_bits}
 use lib.Ieee.Exact.{HasValue, odd_sign}
 use lib.Ieee.Positive.{num, den, den_pos}
 use lib.Ieee.Scale.{finite}
-use Rattle.rounding.specs.Ready.{farthestNear, Near}
+use Rattle.rounding.specs.Ready.{farthest_near, Near}
 use Rattle.thousandths.specs.Steps.{IsParts}
 
 -- where an f64 parts its digits, its exponent and its sign; the digit that a float with all its digits has before those that are kept
@@ -66,7 +66,7 @@ of-bits x f h =
 
 -- ════ a near float's
 -- The powers are numbers of their own here, u for 2 ^ 1074: written out, they are too large for `omega`.
-too_far : (n d k p u : ℕ) → 0 < d → 0 < u → n ≤ farthestNear * d → farthestNear < k → u ≤ p → n * u ≡ k * p * d → ⊥
+too_far : (n d k p u : ℕ) → 0 < d → 0 < u → n ≤ farthest_near * d → farthest_near < k → u ≤ p → n * u ≡ k * p * d → ⊥
 too_far n d k p u D U l h g e =
     omega (arith, N.mul-le-mul_right u l, N.mul-le-mul_right d (N.mul-le-mul h g), N.mul-pos D U)
 

@@ -5,13 +5,13 @@ use mathlib.Core.List.{List, [], ◌∷◌, map}
 use Prim.Native.Nat.{ℕ}
 use lib.IntN.{ℤ, pos, negsuc}
 use lib.Ieee.{binary64, of_bits}
-use Rattle.whole.specs.Down.{roundedDown}
-use Rattle.thousandths.specs.Thousandths.{atMostThousandths}
-use Rattle.thousandths.specs.Steps.{thousandthsUp}
+use Rattle.whole.specs.Down.{rounded_down}
+use Rattle.thousandths.specs.Thousandths.{at_most_thousandths}
+use Rattle.thousandths.specs.Steps.{thousandths_up}
 
 unfoldable against : ℤ → List ℕ → List Bool
-unfolding of_bits atMostThousandths
-against k = map (λ b. atMostThousandths (of_bits binary64 b) k)
+unfolding of_bits at_most_thousandths
+against k = map (λ b. at_most_thousandths (of_bits binary64 b) k)
 
 -- 313.269, a float above the number so written, and the float before it
 above-its-decimal : against (pos 313269) (0x4073_944d_d2f1_a9fc ∷ 0x4073_944d_d2f1_a9fb ∷ []) ≡ false ∷ true ∷ []
@@ -94,7 +94,7 @@ unfolding against
 least = refl
 
 -- rounded up: 313.269 and the float before it, 0.125, -0.125, minus a third, both zeros, and the smallest floats
-rounded-up : map (λ b. thousandthsUp (of_bits binary64 b)) (0x4073_944d_d2f1_a9fc ∷ 0x4073_944d_d2f1_a9fb ∷ 0x3fc0_0000_0000_0000 ∷ 0xbfc0_0000_0000_0000 ∷ 0xbfd5_5555_5555_5555 ∷ 0 ∷ 0x8000_0000_0000_0000 ∷ 1 ∷ 0x8000_0000_0000_0001 ∷ [])
+rounded-up : map (λ b. thousandths_up (of_bits binary64 b)) (0x4073_944d_d2f1_a9fc ∷ 0x4073_944d_d2f1_a9fb ∷ 0x3fc0_0000_0000_0000 ∷ 0xbfc0_0000_0000_0000 ∷ 0xbfd5_5555_5555_5555 ∷ 0 ∷ 0x8000_0000_0000_0000 ∷ 1 ∷ 0x8000_0000_0000_0001 ∷ [])
     ≡ pos 313270 ∷ pos 313269 ∷ pos 125 ∷ negsuc 124 ∷ negsuc 332 ∷ pos 0 ∷ pos 0 ∷ pos 1 ∷ pos 0 ∷ []
-unfolding of_bits roundedDown thousandthsUp
+unfolding of_bits rounded_down thousandths_up
 rounded-up = refl

@@ -14,7 +14,7 @@ use lib.Signed.{le_z, ◌≤ℤ◌, le_z_yes}
 use lib.Ieee.{Float, nan, inf, fin, up, lt}
 use lib.Ieee.Positive.{num, den}
 use borrow.Author.Tests.{ltb-true, ltb-false}
-use Rattle.whole.specs.Down.{thousand, roundedDown}
+use Rattle.whole.specs.Down.{thousand, rounded_down}
 use Rattle.whole.proofs.Ring.{ext, balance-+, neg-*ℤ}
 use Rattle.whole.proofs.Identity.{quote, quote-pos, by, ring1, ring2, ring3}
 use Rattle.whole.proofs.Linear.{zarith}
@@ -22,8 +22,8 @@ use Rattle.whole.proofs.Order.{le_in, ≤ℤ-mul}
 use Rattle.whole.proofs.Down.{down_is, down-most, down-same}
 use Rattle.rounding.specs.Value.{numerator, denominator}
 use Rattle.rounding.proofs.Nearest.{denominator-pos}
-use Rattle.thousandths.specs.Thousandths.{atMostThousandths}
-use Rattle.thousandths.specs.Steps.{IsParts, thousandthsUp}
+use Rattle.thousandths.specs.Thousandths.{at_most_thousandths}
+use Rattle.thousandths.specs.Steps.{IsParts, thousandths_up}
 
 -- ════ by the parts of the magnitude
 abbrev origin : Float
@@ -52,12 +52,12 @@ turned-twice : (z : ℤ) → neg_ℤ (pos thousand *ℤ neg_ℤ z) ≡ pos thous
 turned-twice z = ring1 z (λ ρ e. simp (quote, quote-pos ρ, e) (by _ _ _ tt))
 
 -- n / m rounded up, as the code has it
-up_one : (m n : ℕ) → roundedDown m (pos n -ℤ pos 1) +ℤ pos 1 ≡ neg_ℤ (roundedDown m (neg_ℤ (pos n)))
-unfolding roundedDown
+up_one : (m n : ℕ) → rounded_down m (pos n -ℤ pos 1) +ℤ pos 1 ≡ neg_ℤ (rounded_down m (neg_ℤ (pos n)))
+unfolding rounded_down
 up_one m zero = simp zero-div
 up_one m (suc n) =
     let e : pos (suc n) -ℤ pos 1 ≡ pos n = ext (pos (suc n) -ℤ pos 1) (pos n) (omega (arith, balance-+ (pos (suc n)) (negsuc 0))) in
-    ap (λ z. roundedDown m z +ℤ pos 1) e ∙ ap pos (add-one (n / m))
+    ap (λ z. rounded_down m z +ℤ pos 1) e ∙ ap pos (add-one (n / m))
 
 module _ (x : Float) (d s : ℕ) (v : IsParts x d s) where
   same-value : thousand * num x * 2 ^ s ≡ thousand * d * denominator x
@@ -65,16 +65,16 @@ module _ (x : Float) (d s : ℕ) (v : IsParts x d s) where
 
   -- −1000·x as the code has it
   turned : (y z : ℤ) → y ≡ neg_ℤ (pos thousand *ℤ numerator x) → y *ℤ pos (2 ^ s) ≡ z *ℤ pos (denominator x)
-      → neg_ℤ (roundedDown (2 ^ s) z) ≡ thousandthsUp x
-  unfolding thousandthsUp
+      → neg_ℤ (rounded_down (2 ^ s) z) ≡ thousandths_up x
+  unfolding thousandths_up
   turned y z e f =
-      ap neg_ℤ (sym (down-same (denominator x) (2 ^ s) (denominator-pos x) (pow_pos s) y z f)) ∙ ap (λ w. neg_ℤ (roundedDown (denominator x) w)) e
+      ap neg_ℤ (sym (down-same (denominator x) (2 ^ s) (denominator-pos x) (pow_pos s) y z f)) ∙ ap (λ w. neg_ℤ (rounded_down (denominator x) w)) e
 
-  pub up-below : lt x origin ≡ true → neg_ℤ (roundedDown (2 ^ s) (pos (thousand * d))) ≡ thousandthsUp x
+  pub up-below : lt x origin ≡ true → neg_ℤ (rounded_down (2 ^ s) (pos (thousand * d))) ≡ thousandths_up x
   up-below h =
       turned (pos (thousand * num x)) (pos (thousand * d)) (sym (ap (λ w. neg_ℤ (pos thousand *ℤ w)) (below x h) ∙ turned-twice (pos (num x)))) (ap pos same-value)
 
-  pub up_from : lt x origin ≡ false → roundedDown (2 ^ s) (pos (thousand * d) -ℤ pos 1) +ℤ pos 1 ≡ thousandthsUp x
+  pub up_from : lt x origin ≡ false → rounded_down (2 ^ s) (pos (thousand * d) -ℤ pos 1) +ℤ pos 1 ≡ thousandths_up x
   up_from h =
       up_one (2 ^ s) (thousand * d)
       ∙ turned (neg_ℤ (pos (thousand * num x))) (neg_ℤ (pos (thousand * d))) (sym (ap (λ w. neg_ℤ (pos thousand *ℤ w)) (from_zero x h)))
@@ -89,7 +89,7 @@ same_test false false f g = refl
 
 module _ (m : ℕ) (h : 0 < m) (z k : ℤ) where
   abbrev q : ℤ
-  q = roundedDown m (neg_ℤ z)
+  q = rounded_down m (neg_ℤ z)
 
   positive : pos 0 ≤ℤ pos m
   positive = le_in (omega arith)
@@ -109,8 +109,8 @@ module _ (m : ℕ) (h : 0 < m) (z k : ℤ) where
       back : neg_ℤ k ≤ℤ q → neg_ℤ q ≤ℤ k
       back = ring2 q k (λ ρ e f. simp e (simp (quote, f) (omega zarith)))
 
-pub up-at-most : (x : Float) (k : ℤ) → le_z (thousandthsUp x) k ≡ atMostThousandths x k
-unfolding thousandthsUp atMostThousandths
+pub up-at-most : (x : Float) (k : ℤ) → le_z (thousandths_up x) k ≡ at_most_thousandths x k
+unfolding thousandths_up at_most_thousandths
 up-at-most x k =
     let m = denominator x in
     let z = pos thousand *ℤ numerator x in

@@ -1,7 +1,7 @@
 -- What the code computes on the way.
 use Rattle.std.specs.Prelude.{◌≡◌, ℕ, ◌*◌, ◌^◌, ◌<◌, ℤ, pos, neg_ℤ, ◌*ℤ◌, Float}
 use Rattle.std.specs.Float.Ieee.Positive.{num, den}
-use Rattle.whole.specs.Down.{thousand, roundedDown}
+use Rattle.whole.specs.Down.{thousand, rounded_down}
 use Rattle.rounding.specs.Value.{numerator, denominator}
 
 -- the magnitude of x is digits / 2 ^ shift
@@ -10,5 +10,5 @@ pub record IsParts (x : Float) (digits shift : ℕ) : Type 0 where
   pub few : digits < 2 ^ 53
 
 -- the least whole number of thousandths that x is at most: 1000·x rounded up, which is −1000·x rounded down and turned
-unfoldable pub thousandthsUp : Float → ℤ
-thousandthsUp x = neg_ℤ (roundedDown (denominator x) (neg_ℤ (pos thousand *ℤ numerator x)))
+unfoldable pub thousandths_up : Float → ℤ
+thousandths_up x = neg_ℤ (rounded_down (denominator x) (neg_ℤ (pos thousand *ℤ numerator x)))

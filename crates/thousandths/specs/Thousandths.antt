@@ -5,5 +5,5 @@ use Rattle.whole.specs.Down.{thousand}
 use Rattle.rounding.specs.Value.{numerator, denominator}
 
 -- x is at most k thousandths
-unfoldable pub atMostThousandths : Float → ℤ → Bool
-atMostThousandths x k = le_z (pos thousand *ℤ numerator x) (k *ℤ pos (denominator x))
+unfoldable pub at_most_thousandths : Float → ℤ → Bool
+at_most_thousandths x k = le_z (pos thousand *ℤ numerator x) (k *ℤ pos (denominator x))

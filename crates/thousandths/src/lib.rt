@@ -1,9 +1,9 @@
 // Whether a float is at most a number of thousandths, as exact numbers. Whole numbers decide, for a product or a quotient of floats is rounded.
 ghost use Rattle.std.specs.Prelude.{◌≡◌, ◌^◌};
-ghost use Rattle.whole.specs.Down.{roundedDown};
+ghost use Rattle.whole.specs.Down.{rounded_down};
 ghost use Rattle.rounding.specs.Ready.{Near};
-ghost use Rattle.thousandths.specs.Thousandths.{atMostThousandths};
-ghost use Rattle.thousandths.specs.Steps.{IsParts, thousandthsUp};
+ghost use Rattle.thousandths.specs.Thousandths.{at_most_thousandths};
+ghost use Rattle.thousandths.specs.Steps.{IsParts, thousandths_up};
 
 // An f64 keeps 52 digits in its lowest bits, the exponent's field in the 11 above them, and the sign in the highest. These are 2^52 and 2^63.
 const DIGITS: u64 = 4503599627370496;
@@ -40,7 +40,7 @@ fn parts_of(x: f64) -> Parts
 
 // z / 2^shift rounded down. From 63 on, a shift leaves of an i64 only its sign.
 fn shifted_down(z: i64, shift: u64) -> i64
-    ensures { result ≡ roundedDown (2 ^ shift) z }
+    ensures { result ≡ rounded_down (2 ^ shift) z }
 {
     if shift < 63 { z >> shift } else { z >> 63 }
 }
@@ -49,7 +49,7 @@ fn shifted_down(z: i64, shift: u64) -> i64
 // From zero on it is rounded up: n / 2^shift rounded up is one more than (n - 1) / 2^shift rounded down, at n = 0 too.
 fn thousandths_up(x: f64) -> i64
     requires { Near x }
-    ensures { result ≡ thousandthsUp x }
+    ensures { result ≡ thousandths_up x }
 {
     let p = parts_of(x);
     let n = (1000 * p.digits) as i64;
@@ -63,7 +63,7 @@ fn thousandths_up(x: f64) -> i64
 // Whether x is at most so many thousandths, as exact numbers: 1000 x is at most a whole number exactly where it is so when rounded up.
 pub fn at_most(x: f64, thousandths: i64) -> bool
     requires { Near x }
-    ensures { result ≡ atMostThousandths x thousandths }
+    ensures { result ≡ at_most_thousandths x thousandths }
 {
     thousandths_up(x) <= thousandths
 }

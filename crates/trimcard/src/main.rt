@@ -1,7 +1,7 @@
 // Answers each line of five readings on standard input with the number given back and the six coefficients of the published table.
 ghost use Rattle.std.specs.Prelude.{◌≡◌, true, ◌≤◌, length};
 ghost use Rattle.answers.specs.Answers.{longest};
-ghost use Rattle.answers.specs.Reading.{readingsAfter};
+ghost use Rattle.answers.specs.Reading.{readings_after};
 
 use answers::Reading;
 use layout::cumulus_one::TABLE;
@@ -18,7 +18,7 @@ struct Answered {
 // Answers a piece of the input, with a write each time the output is full; stops where a write fails.
 fn answer_piece(table: &[i64], reading: Reading, piece: &[u8], out: &mut [u8]) -> Answered
     requires { longest ≤ length out.old }
-    ensures { result.written ≡ true → result.reading ≡ readingsAfter reading piece.now }
+    ensures { result.written ≡ true → result.reading ≡ readings_after reading piece.now }
 {
     let mut current = reading;
     let mut at: usize = 0;

@@ -1,12 +1,12 @@
 // The weights of the coefficients, against the cap.
 ghost use Rattle.std.specs.Prelude.{◌≡◌, drop};
-ghost use Rattle.polynomials.specs.Groups.{weightOf, totalWeight};
+ghost use Rattle.polynomials.specs.Groups.{weight_of, total_weight};
 ghost use Rattle.polynomials.specs.Limits.{against};
 ghost use Rattle.layout.specs.Shape.{shape, shared, shared_at};
 ghost use Rattle.layout.specs.Blocks.{led, groups};
-ghost use Rattle.layout.specs.Sound.{withinCap};
-ghost use Rattle.layout.specs.Reaches.{reachesOf};
-ghost use Rattle.weights.specs.Ready.{highIn, AtLeastOne, Measured, GroupWeighable, Shareable, Checkable};
+ghost use Rattle.layout.specs.Sound.{within_cap};
+ghost use Rattle.layout.specs.Reaches.{reaches_of};
+ghost use Rattle.weights.specs.Ready.{high_in, AtLeastOne, Measured, GroupWeighable, Shareable, Checkable};
 
 use layout::{Kind, Model, REACHES_ROOM};
 use polynomials::{CAP, Reach, Weighed, add_row, weight_at};
@@ -32,7 +32,7 @@ fn all_reaches(sizes: [u64; REACHES_ROOM]) -> [Reach; REACHES_ROOM]
 // The weight of the group of a kind that starts at a place, at the reaches of the high piece, or that it passes the cap.
 fn weight_of(table: &[i64], at: usize, kind: Kind, reaches: [Reach; REACHES_ROOM]) -> Weighed
     requires { GroupWeighable table.now at kind reaches }
-    ensures { result ≡ against (weightOf (led kind (drop at table.now)) (highIn reaches)) }
+    ensures { result ≡ against (weight_of (led kind (drop at table.now)) (high_in reaches)) }
 {
     let u = kind.u + 1;
     let v = kind.v + 1;
@@ -43,7 +43,7 @@ fn weight_of(table: &[i64], at: usize, kind: Kind, reaches: [Reach; REACHES_ROOM
 // The weight of the groups that count in both pieces, of the block that starts at a place, or that it passes the cap.
 fn shared(model: Model, table: &[i64], start: usize, reaches: [Reach; REACHES_ROOM]) -> Weighed
     requires { Shareable (shape model) table.now start reaches }
-    ensures { result ≡ against (totalWeight (groups (shared (shape model)) (drop (shared_at (shape model) start) table.now)) (highIn reaches)) }
+    ensures { result ≡ against (total_weight (groups (shared (shape model)) (drop (shared_at (shape model) start) table.now)) (high_in reaches)) }
 {
     let own = shapes::kind(model, 0);
     let mut at = start + PIECES * shapes::size(own);
@@ -68,7 +68,7 @@ fn shared(model: Model, table: &[i64], start: usize, reaches: [Reach; REACHES_RO
 // terms, a row of these at a time, and leaves at the first block and piece whose weight passes. What the pieces share is weighed once.
 pub fn within_cap(model: Model, table: &[i64], sizes: [u64; REACHES_ROOM]) -> bool
     requires { Checkable (shape model) table.now sizes }
-    ensures { result ≡ withinCap (shape model) table.now (reachesOf sizes) }
+    ensures { result ≡ within_cap (shape model) table.now (reaches_of sizes) }
 {
     let reaches = all_reaches(sizes);
     let own = shapes::kind(model, 0);

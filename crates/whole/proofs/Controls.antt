@@ -8,11 +8,11 @@ use lib.IntN.{ℤ, pos, negsuc, neg_ℤ, nat_abs, ◌+ℤ◌, ◌-ℤ◌, ◌*�
 use lib.Signed.{◌≤ℤ◌, ◌<ℤ◌}
 use mir.Syntax.{w64}
 use mir.Val.{SFits}
-use Rattle.whole.specs.Nearest.{nearestAway, IsNearestAway}
-use Rattle.whole.specs.Down.{roundedDown, thousand}
+use Rattle.whole.specs.Nearest.{nearest_away, IsNearestAway}
+use Rattle.whole.specs.Down.{rounded_down, thousand}
 use Rattle.whole.proofs.Solver.{atom, lit, neglit, ◌⊕◌, ◌⊝◌, ◌⊗◌, ⊖◌, ◌↑◌, same}
 use Rattle.whole.proofs.Identity.{quote, quote-pos, quote-negsuc, quote-minus, by, by-eq, ring1, ring2, ring3, ring4, ring5, ring6}
-use Rattle.whole.proofs.Linear.{zarith, quote-natAbs}
+use Rattle.whole.proofs.Linear.{zarith, quote-nat_abs}
 
 -- ════ identities
 fourth : (x s : ℤ)
@@ -75,10 +75,10 @@ hypothesis a b h =
 
 -- ════ magnitudes
 between : (lo r hi : ℤ) (b : ℕ) → lo ≤ℤ r → r ≤ℤ hi → nat_abs lo ≤ b → nat_abs hi ≤ b → nat_abs r ≤ b
-between lo r hi b = ring3 lo r hi (λ ρ e f g. simp (e, f, g, quote-natAbs) (omega zarith))
+between lo r hi b = ring3 lo r hi (λ ρ e f g. simp (e, f, g, quote-nat_abs) (omega zarith))
 
 from-below : (r : ℤ) (b : ℕ) → nat_abs r ≤ b → neg_ℤ (pos b) ≤ℤ r
-from-below r b = ring1 r (λ ρ e. simp (quote-minus ρ, e, quote-natAbs) (omega zarith))
+from-below r b = ring1 r (λ ρ e. simp (quote-minus ρ, e, quote-nat_abs) (omega zarith))
 
 fits : (x : ℤ) → SFits w64 x → x <ℤ pos 7 → SFits w64 (x +ℤ pos 5)
 fits x = ring1 x (λ ρ e. simp (quote, quote-pos ρ, e) (omega zarith))
@@ -87,13 +87,13 @@ least : nat_abs (negsuc 9223372036854775807) ≡ 9223372036854775808
 least = refl
 
 -- ════ rounding: a half goes away from zero on both sides, and an odd divisor has no half
-halves : map (nearestAway 10) (pos 4 ∷ pos 5 ∷ pos 14 ∷ pos 15 ∷ pos 25 ∷ negsuc 3 ∷ negsuc 4 ∷ negsuc 13 ∷ negsuc 14 ∷ [])
+halves : map (nearest_away 10) (pos 4 ∷ pos 5 ∷ pos 14 ∷ pos 15 ∷ pos 25 ∷ negsuc 3 ∷ negsuc 4 ∷ negsuc 13 ∷ negsuc 14 ∷ [])
     ≡ pos 0 ∷ pos 1 ∷ pos 1 ∷ pos 2 ∷ pos 3 ∷ pos 0 ∷ negsuc 0 ∷ negsuc 0 ∷ negsuc 1 ∷ []
-unfolding nearestAway
+unfolding nearest_away
 halves = refl
 
-thirds : map (nearestAway 3) (pos 0 ∷ pos 1 ∷ pos 2 ∷ pos 4 ∷ pos 5 ∷ negsuc 0 ∷ negsuc 1 ∷ []) ≡ pos 0 ∷ pos 0 ∷ pos 1 ∷ pos 1 ∷ pos 2 ∷ pos 0 ∷ negsuc 0 ∷ []
-unfolding nearestAway
+thirds : map (nearest_away 3) (pos 0 ∷ pos 1 ∷ pos 2 ∷ pos 4 ∷ pos 5 ∷ negsuc 0 ∷ negsuc 1 ∷ []) ≡ pos 0 ∷ pos 0 ∷ pos 1 ∷ pos 1 ∷ pos 2 ∷ pos 0 ∷ negsuc 0 ∷ []
+unfolding nearest_away
 thirds = refl
 
 -- of the two whole numbers at a half from 1 / 2, and from -1 / 2, the one at zero is no answer
@@ -108,6 +108,6 @@ far-refused : IsNearestAway 4 (pos 3) (pos 0) → ⊥
 far-refused h = omega (arith, h.near)
 
 -- down, on both sides of zero
-thousands : map (roundedDown thousand) (negsuc 1000 ∷ negsuc 999 ∷ negsuc 0 ∷ pos 0 ∷ pos 999 ∷ pos 1000 ∷ []) ≡ negsuc 1 ∷ negsuc 0 ∷ negsuc 0 ∷ pos 0 ∷ pos 0 ∷ pos 1 ∷ []
-unfolding roundedDown
+thousands : map (rounded_down thousand) (negsuc 1000 ∷ negsuc 999 ∷ negsuc 0 ∷ pos 0 ∷ pos 999 ∷ pos 1000 ∷ []) ≡ negsuc 1 ∷ negsuc 0 ∷ negsuc 0 ∷ pos 0 ∷ pos 0 ∷ pos 1 ∷ []
+unfolding rounded_down
 thousands = refl

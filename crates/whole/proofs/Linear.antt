@@ -1,7 +1,7 @@
 -- A linear fact over ℤ in one line, where it is needed.
 --   shift lo r s = ring3 lo r s (λ ρ e f g. simp (quote, e, f, g) (omega zarith))
 --   zarith        in `omega`, reads `≤ℤ`, `<ℤ`, `≡` and `SFits w64` of quoted numbers, and proves those and `T (non_neg _)`
---   quote-natAbs  in `simp`, for magnitudes
+--   quote-nat_abs  in `simp`, for magnitudes
 -- The atoms are named and quoted as for `Identity`. Hypotheses stay arrows of the goal, so that `simp` rewrites them too; one that is bound already is
 -- rewritten by itself, `let k = simp (e, f) at h in ..`. `Controls` has examples.
 -- An expression is read as the difference of `ups e ρ` and `dns e ρ`, two naturals made of `up` and `dn` of its atoms.
@@ -96,22 +96,22 @@ module _ (ρ : List ℤ) (a b : Expr) where
   eq-goal h = ext (eval a ρ) (eval b ρ) (omega (arith, split a ρ, split b ρ))
 
 -- ════ magnitudes, and what 64 bits hold
-natAbs-split : (x : ℤ) (u d : ℕ) → up x + d ≡ u + dn x → nat_abs x ≡ (u - d) + (d - u)
-natAbs-split (pos n) u d e = omega arith
-natAbs-split (negsuc n) u d e = omega arith
+nat_abs-split : (x : ℤ) (u d : ℕ) → up x + d ≡ u + dn x → nat_abs x ≡ (u - d) + (d - u)
+nat_abs-split (pos n) u d e = omega arith
+nat_abs-split (negsuc n) u d e = omega arith
 
 mag-split : (x : ℤ) (u d : ℕ) → up x + d ≡ u + dn x → mag x ≡ (u - d) + (d - suc u)
 mag-split (pos n) u d e = omega arith
 mag-split (negsuc n) u d e = omega arith
 
-nonNeg-split : (x : ℤ) (u d : ℕ) → up x + d ≡ u + dn x → d ≤ u → T (non_neg x)
-nonNeg-split (pos n) u d e h = tt
-nonNeg-split (negsuc n) u d e h = absurd (omega arith)
+non_neg-split : (x : ℤ) (u d : ℕ) → up x + d ≡ u + dn x → d ≤ u → T (non_neg x)
+non_neg-split (pos n) u d e h = tt
+non_neg-split (negsuc n) u d e h = absurd (omega arith)
 
 module _ (ρ : List ℤ) (a : Expr) where
-  pub quote-natAbs : nat_abs (quoted ρ a) ≡ (ups a ρ - dns a ρ) + (dns a ρ - ups a ρ)
+  pub quote-nat_abs : nat_abs (quoted ρ a) ≡ (ups a ρ - dns a ρ) + (dns a ρ - ups a ρ)
   unfolding quoted
-  quote-natAbs = natAbs-split (eval a ρ) (ups a ρ) (dns a ρ) (split a ρ)
+  quote-nat_abs = nat_abs-split (eval a ρ) (ups a ρ) (dns a ρ) (split a ρ)
 
   pub sfits-hyp : SFits w64 (quoted ρ a) → (ups a ρ - dns a ρ) + (dns a ρ - suc (ups a ρ)) < 2 ^ 63
   unfolding quoted
@@ -121,9 +121,9 @@ module _ (ρ : List ℤ) (a : Expr) where
   unfolding quoted
   sfits-goal h = record { sfits = omega (arith, mag-split (eval a ρ) (ups a ρ) (dns a ρ) (split a ρ)) }
 
-  pub nonNeg-goal : dns a ρ ≤ ups a ρ → T (non_neg (quoted ρ a))
+  pub non_neg-goal : dns a ρ ≤ ups a ρ → T (non_neg (quoted ρ a))
   unfolding quoted
-  nonNeg-goal h = nonNeg-split (eval a ρ) (ups a ρ) (dns a ρ) (split a ρ) h
+  non_neg-goal h = non_neg-split (eval a ρ) (ups a ρ) (dns a ρ) (split a ρ) h
 
 pub ruleset zarith =
-    (arith, le-hyp, le-goal, lt-hyp, lt-goal, eq-hyp, eq-goal, sfits-hyp, sfits-goal, nonNeg-goal)
+    (arith, le-hyp, le-goal, lt-hyp, lt-goal, eq-hyp, eq-goal, sfits-hyp, sfits-goal, non_neg-goal)

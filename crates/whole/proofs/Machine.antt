@@ -1,7 +1,7 @@
 -- Whole numbers in 64 bits: what fits, what a test on i64 says, and what an operation on i64 asks and gives.
 -- A signed local holds bits, so a test and a need speak of `to_z w64 (of_z w64 x)`, which is x where x fits.
---   fits        natAbs-sfits, within-sfits: by a magnitude below 2 ^ 63; sfits-bound: the magnitude of a number that fits
---   tests       lt-taken, lt-left, le-taken, le_left: what `x < y` and `x <= y` say, taken or left; leZ-no, of `le_z` where it fails
+--   fits        nat_abs-sfits, within-sfits: by a magnitude below 2 ^ 63; sfits-bound: the magnitude of a number that fits
+--   tests       lt-taken, lt-left, le-taken, le_left: what `x < y` and `x <= y` say, taken or left; le_z-no, of `le_z` where it fails
 --   operations  add-bits, sub-bits, mul-bits, neg_bits: the need, that the result fits; add_back, sub_back, mul-back, neg-back: the result as it is read back
 --   chains      op-bits and op-back are the same for any operation, with each operand's value handed over as an equation: the -back of the operation
 --               before, `to_z-of_z f` of a variable, and `refl {a = pos 7}` of a literal
@@ -20,19 +20,19 @@ use mir.Facts.{to_z-of_z, T_not}
 use Rattle.whole.proofs.Magnitudes.{Within}
 use Rattle.whole.proofs.Order.{≤ℤ-or-<ℤ}
 
-pub natAbs-sfits : (z : ℤ) → nat_abs z < 2 ^ 63 → SFits w64 z
-natAbs-sfits (pos n) h = record { sfits = h }
-natAbs-sfits (negsuc n) h = record { sfits = omega arith }
+pub nat_abs-sfits : (z : ℤ) → nat_abs z < 2 ^ 63 → SFits w64 z
+nat_abs-sfits (pos n) h = record { sfits = h }
+nat_abs-sfits (negsuc n) h = record { sfits = omega arith }
 
 pub within-sfits : {z : ℤ} {n : ℕ} → Within z n → n < 2 ^ 63 → SFits w64 z
-within-sfits {z} h k = natAbs-sfits z (lt_of_le_of_lt h.size k)
+within-sfits {z} h k = nat_abs-sfits z (lt_of_le_of_lt h.size k)
 
 pub sfits-bound : {z : ℤ} → SFits w64 z → nat_abs z ≤ 2 ^ 63
 sfits-bound {z} f = nat_abs-le z f.sfits
 
 -- ════ tests
-pub leZ-no : (x y : ℤ) → T (not (le_z x y)) → y <ℤ x
-leZ-no x y t = ⊎_elim (λ h. absurd (T_not (le_z x y) h.le t)) (λ h. h) (≤ℤ-or-<ℤ y x)
+pub le_z-no : (x y : ℤ) → T (not (le_z x y)) → y <ℤ x
+le_z-no x y t = ⊎_elim (λ h. absurd (T_not (le_z x y) h.le t)) (λ h. h) (≤ℤ-or-<ℤ y x)
 
 module _ {x y : ℤ} (f : SFits w64 x) (g : SFits w64 y) where
   read : (P : ℤ → ℤ → Bool) {b : Bool} → P (to_z w64 (of_z w64 x)) (to_z w64 (of_z w64 y)) ≡ b → b ≡ P x y
@@ -48,7 +48,7 @@ module _ {x y : ℤ} (f : SFits w64 x) (g : SFits w64 y) where
   le-taken e = le_z_yes (subst T (read le_z e) tt)
 
   pub le_left : le_z (to_z w64 (of_z w64 x)) (to_z w64 (of_z w64 y)) ≡ false → y <ℤ x
-  le_left e = leZ-no x y (subst (λ (b : Bool). T (not b)) (read le_z e) tt)
+  le_left e = le_z-no x y (subst (λ (b : Bool). T (not b)) (read le_z e) tt)
 
 -- ════ operations
 module _ (f : ℤ → ℤ → ℤ) {u v x y : ℤ} (p : u ≡ x) (q : v ≡ y) (h : SFits w64 (f x y)) where

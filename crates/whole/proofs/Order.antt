@@ -13,7 +13,7 @@ use lib.Dec.{T, leb→le, le→leb}
 use lib.IntN.{ℤ, pos, negsuc, nat_abs, neg_ℤ, ◌+ℤ◌, ◌-ℤ◌, ◌*ℤ◌}
 use lib.Signed.{le_z, lt_z, ◌≤ℤ◌, ◌<ℤ◌, lt_z_yes, lt_z_no, clash_ℤ}
 use Rattle.whole.proofs.Ring.{up, dn, ext, balance-+, balance-*, up_neg, dn-neg}
-use Rattle.whole.proofs.Magnitudes.{natAbs-is}
+use Rattle.whole.proofs.Magnitudes.{nat_abs-is}
 
 pub ≤ℤ-or-<ℤ : (x y : ℤ) → (y ≤ℤ x) ⊎ (x <ℤ y)
 ≤ℤ-or-<ℤ x y = go (lt_z x y) (λ t. lt_z_yes t) (λ t. lt_z_no t)
@@ -74,12 +74,12 @@ pub ≤ℤ-mul : {a x y : ℤ} → pos 0 ≤ℤ a → x ≤ℤ y → (a *ℤ x) 
 
 pub two-sided : (r : ℤ) {b : ℕ} → nat_abs r ≤ b → (neg_ℤ (pos b) ≤ℤ r) × (r ≤ℤ pos b)
 two-sided r {b} h =
-    (le_in (omega (arith, natAbs-is r, up_neg (pos b), dn-neg (pos b))), le_in (omega (arith, natAbs-is r)))
+    (le_in (omega (arith, nat_abs-is r, up_neg (pos b), dn-neg (pos b))), le_in (omega (arith, nat_abs-is r)))
 
 pub from-two : {r : ℤ} {b : ℕ} → neg_ℤ (pos b) ≤ℤ r → r ≤ℤ pos b → nat_abs r ≤ b
 from-two {r = pos n} h k = omega (arith, le_out k)
 from-two {r = negsuc n} {b} h k = omega (arith, le_out h, up_neg (pos b), dn-neg (pos b))
 
 pub hull : {lo r hi : ℤ} → lo ≤ℤ r → r ≤ℤ hi → nat_abs r ≤ max 1 (max (nat_abs lo) (nat_abs hi))
-hull {r = pos n} {hi} h k = omega (arith, le_out k, natAbs-is hi)
-hull {lo} {r = negsuc n} h k = omega (arith, le_out h, natAbs-is lo)
+hull {r = pos n} {hi} h k = omega (arith, le_out k, nat_abs-is hi)
+hull {lo} {r = negsuc n} h k = omega (arith, le_out h, nat_abs-is lo)

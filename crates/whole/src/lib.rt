@@ -1,5 +1,5 @@
 ghost use Rattle.std.specs.Prelude.{◌≡◌, ◌+◌, ◌/◌, ◌^◌, ◌<◌, pos, nat_abs, ◌<ℤ◌};
-ghost use Rattle.whole.specs.Nearest.{nearestAway};
+ghost use Rattle.whole.specs.Nearest.{nearest_away};
 
 // The distance of `x` from 0, at the least i64 too: its negation does not fit an i64, so the code negates `x + 1` and adds the 1 after the cast.
 pub fn magnitude(x: i64) -> u64
@@ -15,7 +15,7 @@ pub fn magnitude(x: i64) -> u64
 // z / m to the nearest whole number, a half away from zero: half of m is put on, away from zero, and the division cuts towards it.
 pub fn nearest_away(z: i64, m: i64) -> i64
     requires { (pos 0 <ℤ m) × (nat_abs z + nat_abs m / 2 < 2 ^ 63) }
-    ensures { result ≡ nearestAway (nat_abs m) z }
+    ensures { result ≡ nearest_away (nat_abs m) z }
 {
     let half = m / 2;
     if z < 0 {

@@ -2,7 +2,7 @@
 use mathlib.Core.Path.{◌≡◌, refl}
 use mathlib.Core.List.{[], ◌∷◌, map}
 use Rattle.words.specs.Text.{text}
-use Rattle.words.specs.Words.{words, wordAt}
+use Rattle.words.specs.Words.{words, word_at}
 
 -- spaces part the words, as many as you like; other bytes, as a tab, do not
 words-read : map words (map text ("" ∷ "   " ∷ "a" ∷ "  sum   9 " ∷ "a\tb c" ∷ []))
@@ -10,6 +10,6 @@ words-read : map words (map text ("" ∷ "   " ∷ "a" ∷ "  sum   9 " ∷ "a\t
 unfolding words
 words-read = refl
 
-words-by-place : map (wordAt (text " set 0 -7")) (0 ∷ 2 ∷ 3 ∷ []) ≡ text "set" ∷ text "-7" ∷ [] ∷ []
+words-by-place : map (word_at (text " set 0 -7")) (0 ∷ 2 ∷ 3 ∷ []) ≡ text "set" ∷ text "-7" ∷ [] ∷ []
 unfolding words
 words-by-place = refl

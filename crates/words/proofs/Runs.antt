@@ -11,7 +11,7 @@ use borrow.Author.Tests.{ltb-true, ltb-false, lt-ltb, le-ltb}
 use lib.Dec.{eqb, ltb}
 use lib.ListN.{length, take, drop, get_or, length-drop, length-append, get_or-eq_default}
 use lib.Seq.{slice, length-take-le, take-add, drop_at, drop-drop, take-append_seam, drop-append_seam}
-use Rattle.words.specs.Words.{onto, parts, unlessEmpty, nonEmpty, words, wordAt}
+use Rattle.words.specs.Words.{onto, parts, unless_empty, non_empty, words, word_at}
 use Rattle.words.specs.Steps.{run}
 
 -- ════ runs
@@ -63,31 +63,31 @@ parts_first (b ∷ bs) = pick (eqb b 32) (parts_first bs)
     pick true e = refl
     pick false e = ap (onto b) e
 
-words-later : (l : List ℕ) → nonEmpty (later l) ≡ words (behind false l)
+words-later : (l : List ℕ) → non_empty (later l) ≡ words (behind false l)
 unfolding words
 words-later [] = refl
 words-later (b ∷ bs) = pick (eqb b 32) refl (words-later bs)
   where
-    pick : (t : Bool) → eqb b 32 ≡ t → nonEmpty (later bs) ≡ words (behind false bs) → nonEmpty (cond t (parts bs) (later bs)) ≡ words (cond (beq t false) (behind false bs) (b ∷ bs))
-    pick true e i = ap (λ t. nonEmpty (cond t ([] ∷ parts bs) (onto b (parts bs)))) (sym e)
+    pick : (t : Bool) → eqb b 32 ≡ t → non_empty (later bs) ≡ words (behind false bs) → non_empty (cond t (parts bs) (later bs)) ≡ words (cond (beq t false) (behind false bs) (b ∷ bs))
+    pick true e i = ap (λ t. non_empty (cond t ([] ∷ parts bs) (onto b (parts bs)))) (sym e)
     pick false e i = i
 
-words-run : (l : List ℕ) → words l ≡ unlessEmpty (run false l) (words (behind false l))
+words-run : (l : List ℕ) → words l ≡ unless_empty (run false l) (words (behind false l))
 unfolding words
-words-run l = ap nonEmpty (parts_first l) ∙ ap (unlessEmpty (run false l)) (words-later l)
+words-run l = ap non_empty (parts_first l) ∙ ap (unless_empty (run false l)) (words-later l)
 
 words-space : (b : ℕ) (bs : List ℕ) → eqb b 32 ≡ true → words (b ∷ bs) ≡ words bs
 unfolding words
-words-space b bs e = ap (λ t. nonEmpty (cond t ([] ∷ parts bs) (onto b (parts bs)))) e
+words-space b bs e = ap (λ t. non_empty (cond t ([] ∷ parts bs) (onto b (parts bs)))) e
 
 -- the first word and the others
 abbrev Split : List ℕ → List ℕ → Type 0
-Split l m = (wordAt l 0 ≡ run false m) × (drop 1 (words l) ≡ words (behind false m))
+Split l m = (word_at l 0 ≡ run false m) × (drop 1 (words l) ≡ words (behind false m))
 
 split-word : (b : ℕ) (bs : List ℕ) → eqb b 32 ≡ false → Split (b ∷ bs) (b ∷ bs)
 split-word b bs e =
     let r : run false (b ∷ bs) ≡ b ∷ run false bs = ap (λ t. cond (beq t false) (b ∷ run false bs) []) e in
-    let w : words (b ∷ bs) ≡ (b ∷ run false bs) ∷ words (behind false (b ∷ bs)) = words-run (b ∷ bs) ∙ ap (λ f. unlessEmpty f (words (behind false (b ∷ bs)))) r in
+    let w : words (b ∷ bs) ≡ (b ∷ run false bs) ∷ words (behind false (b ∷ bs)) = words-run (b ∷ bs) ∙ ap (λ f. unless_empty f (words (behind false (b ∷ bs)))) r in
     (ap (λ ws. get_or ws 0 []) w ∙ sym r, ap (drop 1) w)
 
 split : (l : List ℕ) → Split l (behind true l)
@@ -112,7 +112,7 @@ module _ (line : List ℕ) (from : ℕ) (h : from ≤ length line) where
   pub first-within : end ≤ length line
   first-within = run-within false line start start-within
 
-  pub first_run : slice start end line ≡ wordAt (drop from line) 0
+  pub first_run : slice start end line ≡ word_at (drop from line) 0
   first_run =
       run-slice false line start start-within ∙ ap (run false) (run_drop true line from h) ∙ sym (split (drop from line)).0
 
@@ -122,14 +122,14 @@ module _ (line : List ℕ) (from : ℕ) (h : from ≤ length line) where
       ∙ sym (split (drop from line)).1
 
 -- ════ how many there are: no word is empty
-some_words : (ps : List (List ℕ)) (k : ℕ) → k < length (nonEmpty ps) → 0 < length (get_or (nonEmpty ps) k [])
+some_words : (ps : List (List ℕ)) (k : ℕ) → k < length (non_empty ps) → 0 < length (get_or (non_empty ps) k [])
 some_words [] k h = absurd (omega arith)
 some_words ([] ∷ ps) k h = some_words ps k h
 some_words ((b ∷ bs) ∷ ps) zero h = omega arith
 some_words ((b ∷ bs) ∷ ps) (suc k) h = some_words ps k (omega arith)
 
 -- so a place that is not empty holds one, and one that is empty holds none
-pub word_some : (line : List ℕ) (k start end : ℕ) → length (wordAt line k) ≡ end - start → ltb start end ≡ ltb k (length (words line))
+pub word_some : (line : List ℕ) (k start end : ℕ) → length (word_at line k) ≡ end - start → ltb start end ≡ ltb k (length (words line))
 unfolding words
 word_some line k start end e = pick (ltb k (length (words line))) refl
   where

@@ -1,7 +1,7 @@
 -- What the code finds on its way to a word. That it leads to what `Words` says is shown in `proofs/`.
 use Rattle.std.specs.Prelude.{◌≡◌, Bool, cond, List, [], ◌∷◌, ℕ, ◌≤◌, eqb, length, drop}
 use Rattle.std.specs.Bool.{beq}
-use Rattle.words.specs.Words.{words, wordAt, IsAt}
+use Rattle.words.specs.Words.{words, word_at, IsAt}
 use Rattle.words.specs.declared.Word.{Word}
 
 -- the bytes in front that are spaces, or that are none
@@ -11,7 +11,7 @@ run space (b ∷ bs) = cond (beq (eqb b 32) space) (b ∷ run space bs) []
 
 -- the first word from a place on, behind which the other words stand
 pub record First (line : List ℕ) (from : ℕ) (word : Word) : Type 0 where
-  pub at : IsAt line (wordAt (drop from line) 0) word
+  pub at : IsAt line (word_at (drop from line) 0) word
   pub later : words (drop word.end line) ≡ drop 1 (words (drop from line))
 
 -- the first words are passed

@@ -12,20 +12,20 @@ abbrev pub parts : List ℕ → List (List ℕ)
 parts [] = [] ∷ []
 parts (b ∷ bs) = cond (eqb b 32) ([] ∷ parts bs) (onto b (parts bs))
 
-abbrev pub unlessEmpty : List ℕ → List (List ℕ) → List (List ℕ)
-unlessEmpty [] ws = ws
-unlessEmpty (b ∷ bs) ws = (b ∷ bs) ∷ ws
+abbrev pub unless_empty : List ℕ → List (List ℕ) → List (List ℕ)
+unless_empty [] ws = ws
+unless_empty (b ∷ bs) ws = (b ∷ bs) ∷ ws
 
-abbrev pub nonEmpty : List (List ℕ) → List (List ℕ)
-nonEmpty [] = []
-nonEmpty (w ∷ ws) = unlessEmpty w (nonEmpty ws)
+abbrev pub non_empty : List (List ℕ) → List (List ℕ)
+non_empty [] = []
+non_empty (w ∷ ws) = unless_empty w (non_empty ws)
 
 unfoldable pub words : List ℕ → List (List ℕ)
-words line = nonEmpty (parts line)
+words line = non_empty (parts line)
 
 -- a word by its place, from 0 on; nothing where there are fewer
-abbrev pub wordAt : List ℕ → ℕ → List ℕ
-wordAt line k = get_or (words line) k []
+abbrev pub word_at : List ℕ → ℕ → List ℕ
+word_at line k = get_or (words line) k []
 
 -- the bytes of the line from the start of a place up to its end are that word
 pub record IsAt (line word : List ℕ) (place : Word) : Type 0 where

@@ -1,7 +1,7 @@
 // The words of a line, which spaces part.
 ghost use Rattle.std.specs.Prelude.{◌≡◌, ◌+◌, ◌≤◌, ltb, length, drop};
 ghost use Rattle.std.proofs.Math.Seq.{slice};
-ghost use Rattle.words.specs.Words.{words, wordAt, same, IsAt};
+ghost use Rattle.words.specs.Words.{words, word_at, same, IsAt};
 ghost use Rattle.words.specs.Steps.{run, First, Passed};
 
 // Where a word stands: from its start up to its end.
@@ -48,7 +48,7 @@ fn behind_words(line: &[u8], mut count: usize) -> usize
 
 // A word by its place, from 0 on; an empty one where there are fewer.
 pub fn word_at(line: &[u8], k: usize) -> Word
-    ensures { IsAt line.now (wordAt line.now k) result }
+    ensures { IsAt line.now (word_at line.now k) result }
 {
     let from = behind_words(line, k);
     first_word(line, from)
@@ -82,7 +82,7 @@ fn same_part(a: &[u8], mut i: usize, end: usize, b: &[u8], mut k: usize, stop: u
 
 // Whether a word of one line is a word of another, byte for byte.
 pub fn same_word(a: &[u8], i: usize, b: &[u8], k: usize) -> bool
-    ensures { result ≡ same (wordAt a.now i) (wordAt b.now k) }
+    ensures { result ≡ same (word_at a.now i) (word_at b.now k) }
 {
     let one = word_at(a, i);
     let other = word_at(b, k);

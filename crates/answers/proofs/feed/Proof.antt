@@ -12,7 +12,7 @@ use lib.ListN.{length, take, length-append}
 use Rattle.printing.specs.Spell.{written}
 use Rattle.printing.proofs.Writing.{written-append}
 use Rattle.answers.specs.Answers.{longest}
-use Rattle.answers.specs.Reading.{readingsAfter, answersOf, part, Taken}
+use Rattle.answers.specs.Reading.{readings_after, answers_of, part, Taken}
 use Rattle.answers.specs.declared.Fed.{Fed}
 use Rattle.answers.proofs.Parts.{joined-readings, joined-answers}
 use Rattle.answers.proofs.feed.Statement.{statement}
@@ -22,11 +22,11 @@ abbrev invariant-loop : tie.invariant-loop
 invariant-loop table input out₀ refused fed₀ out fed =
     (fed.taken ≤ length input)
     × (length out ≡ length out₀)
-    × (fed.reading ≡ readingsAfter fed₀.reading (take fed.taken input))
-    × (fed.put ≡ length (answersOf table fed₀.reading (take fed.taken input)))
+    × (fed.reading ≡ readings_after fed₀.reading (take fed.taken input))
+    × (fed.put ≡ length (answers_of table fed₀.reading (take fed.taken input)))
     × (fed.put ≤ length out₀)
-    × (out ≡ written out₀ 0 (answersOf table fed₀.reading (take fed.taken input)))
-    × ((i : ℕ) → i < fed.taken → length (answersOf table fed₀.reading (take i input)) + longest ≤ length out₀)
+    × (out ≡ written out₀ 0 (answers_of table fed₀.reading (take fed.taken input)))
+    × ((i : ℕ) → i < fed.taken → length (answers_of table fed₀.reading (take i input)) + longest ≤ length out₀)
 
 abbrev decreases-loop : tie.decreases-loop
 decreases-loop table input out₀ refused fed₀ out fed = length input - fed.taken
@@ -73,17 +73,17 @@ module _ (c : tie.After-take-line invariant-loop decreases-loop) where
   abbrev fed : Fed
   fed = c.take-line.result
 
-  turn : Taken table (readingsAfter begin.args.reading (take from input)) input from at.loop.out c.take-line.new.1.1.1.1.1.0 at.loop.fed.put fed
+  turn : Taken table (readings_after begin.args.reading (take from input)) input from at.loop.out c.take-line.new.1.1.1.1.1.0 at.loop.fed.put fed
   turn = subst (λ r. Taken table r input from at.loop.out c.take-line.new.1.1.1.1.1.0 at.loop.fed.put fed) at.loop.inv.2 c.take-line.ensures
 
   -- the answers before it, and its own
   abbrev before : List ℕ
-  before = answersOf table begin.args.reading (take from input)
+  before = answers_of table begin.args.reading (take from input)
 
   abbrev own : ℕ → List ℕ
-  own end = answersOf table (readingsAfter begin.args.reading (take from input)) (part input from end)
+  own end = answers_of table (readings_after begin.args.reading (take from input)) (part input from end)
 
-  joined : (end : ℕ) → from ≤ end → before ++ own end ≡ answersOf table begin.args.reading (take end input)
+  joined : (end : ℕ) → from ≤ end → before ++ own end ≡ answers_of table begin.args.reading (take end input)
   joined = joined-answers table begin.args.reading input from
 
   room : at.loop.fed.put + longest ≤ length begin.args.out.now
@@ -102,10 +102,10 @@ module _ (c : tie.After-take-line invariant-loop decreases-loop) where
       ∙ written-append begin.args.out.now 0 before (own fed.taken) (omega (arith, place, within))
 
   -- nothing is answered before its last byte
-  roomy : (i : ℕ) → i < fed.taken → length (answersOf table begin.args.reading (take i input)) + longest ≤ length begin.args.out.now
+  roomy : (i : ℕ) → i < fed.taken → length (answers_of table begin.args.reading (take i input)) + longest ≤ length begin.args.out.now
   roomy i h = pick (dec_lt i from)
     where
-      pick : Dec (i < from) → length (answersOf table begin.args.reading (take i input)) + longest ≤ length begin.args.out.now
+      pick : Dec (i < from) → length (answers_of table begin.args.reading (take i input)) + longest ≤ length begin.args.out.now
       pick (yes b) = at.loop.inv.6 i b
       pick (no b) =
           let e = sym (joined i (omega arith)) ∙ ap (λ xs. before ++ xs) (turn.silent i (omega arith) h) ∙ append-nil before in

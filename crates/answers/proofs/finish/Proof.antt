@@ -12,16 +12,16 @@ use lib.ListN.{length}
 use Rattle.lines.specs.State.{finished}
 use Rattle.printing.specs.Spell.{written}
 use Rattle.printing.proofs.Writing.{written-sets}
-use Rattle.answers.specs.Answers.{lineAnswer, longest}
-use Rattle.answers.specs.Reading.{lastAnswer, lastIn}
+use Rattle.answers.specs.Answers.{line_answer, longest}
+use Rattle.answers.specs.Reading.{last_answer, last_in}
 use Rattle.answers.specs.declared.Reading.{Reading}
 use Rattle.answers.proofs.Program.{last_fits}
 use Rattle.answers.proofs.finish.Statement.{statement}
 use Rattle.answers.proofs.finish.Tie as tie
 
 -- what is written, where there is room
-with-room : (t : List ℤ) (r : Reading) (n : ℕ) {u : Bool} → longest ≤ n → r.begun ≡ u → lastIn t r n ≡ cond u (lineAnswer t (finished r.line)) []
-with-room t r n h e = last_fits t r n h ∙ ap (λ u. cond u (lineAnswer t (finished r.line)) []) e
+with-room : (t : List ℤ) (r : Reading) (n : ℕ) {u : Bool} → longest ≤ n → r.begun ≡ u → last_in t r n ≡ cond u (line_answer t (finished r.line)) []
+with-room t r n h e = last_fits t r n h ∙ ap (λ u. cond u (line_answer t (finished r.line)) []) e
 
 -- nothing is written
 module _ {bytes : List ℕ} (out : List ℕ) (none : bytes ≡ []) where
@@ -34,7 +34,7 @@ module _ {bytes : List ℕ} (out : List ℕ) (none : bytes ≡ []) where
 returns : tie.Need-returns
 returns c =
     let a = c.before.before.args in
-    let none : lastIn a.table.now a.reading (length a.out.now) ≡ [] = ap (λ b. cond b [] (lastAnswer a.table.now a.reading)) (lt-ltb (length a.out.now) longest c.if1.true) in
+    let none : last_in a.table.now a.reading (length a.out.now) ≡ [] = ap (λ b. cond b [] (last_answer a.table.now a.reading)) (lt-ltb (length a.out.now) longest c.if1.true) in
     (count_none a.out.now none, (kept a.out.now none, omega arith))
 
 refusal-of-requires : tie.Need-refusal-of-requires
@@ -55,8 +55,8 @@ returns-2 c =
     let a = s.before.before.before.before.args in
     let line = c.before.before.put-line in
     let done = c.before.before.before.before.finish in
-    let whole : lineAnswer a.table.now done.result ≡ lastIn a.table.now a.reading (length a.out.now) =
-    ap (lineAnswer a.table.now) done.ensures ∙ sym (with-room a.table.now a.reading (length a.out.now) s.before.before.if1.false s.if2.true) in
+    let whole : line_answer a.table.now done.result ≡ last_in a.table.now a.reading (length a.out.now) =
+    ap (line_answer a.table.now) done.ensures ∙ sym (with-room a.table.now a.reading (length a.out.now) s.before.before.if1.false s.if2.true) in
     (omega (arith, line.ensures.0, ap length whole), (line.ensures.1.0 ∙ ap (written a.out.now 0) whole, omega (arith, line.ensures.1.1, s.before.before.if1.false)))
 
 returns-3 : tie.Need-returns-3

@@ -11,10 +11,10 @@ use lib.ListN.{length}
 use mir.Syntax.{w64}
 use mir.Val.{to_z, of_z}
 use Rattle.layout.specs.Shape.{cumulus}
-use Rattle.layout.specs.Reading.{readings, readNumber, readOutput}
+use Rattle.layout.specs.Reading.{readings, read_number, read_output}
 use Rattle.printing.specs.Spell.{written}
 use Rattle.tables.proofs.Steps.{into-room}
-use Rattle.answers.specs.Answers.{numbered, zeros, lineAnswer}
+use Rattle.answers.specs.Answers.{numbered, zeros, line_answer}
 use Rattle.answers.proofs.Numbers.{read-few}
 use Rattle.answers.proofs.put_line.Statement.{statement}
 use Rattle.answers.proofs.put_line.Tie as tie
@@ -63,15 +63,15 @@ few c =
     (λ w. subst (λ n. n < 10000) (sym (w.7 ∙ w.4.ensures.0)) (read-few (at c).args.table.now _ zeros))
     c.match.branch
 
-whole : (c : tie.At-match-branch) → numbered c.match.number c.match.values ≡ lineAnswer (at c).args.table.now (at c).args.line
-unfolding lineAnswer
+whole : (c : tie.At-match-branch) → numbered c.match.number c.match.values ≡ line_answer (at c).args.table.now (at c).args.line
+unfolding line_answer
 whole c =
     let t = (at c).args.table.now in
     ⊎_elim
-    (λ w. ap₂ numbered w.3 w.2 ∙ ap (lineAnswer t) (sym w.1.given.1))
+    (λ w. ap₂ numbered w.3 w.2 ∙ ap (line_answer t) (sym w.1.given.1))
     (λ w. let same = same-state (record { before = record { before = record { before = c.before; match = w.0 }; line = w.1 }; known-told = w.2 }) in
-    ap₂ numbered (w.7 ∙ w.4.ensures.0 ∙ ap (λ x. readNumber cumulus t (readings x) zeros) same) (w.6 ∙ w.4.ensures.1 ∙ ap (λ x. readOutput cumulus t (readings x) zeros) same)
-    ∙ ap (lineAnswer t) (sym w.1.given.1))
+    ap₂ numbered (w.7 ∙ w.4.ensures.0 ∙ ap (λ x. read_number cumulus t (readings x) zeros) same) (w.6 ∙ w.4.ensures.1 ∙ ap (λ x. read_output cumulus t (readings x) zeros) same)
+    ∙ ap (line_answer t) (sym w.1.given.1))
     c.match.branch
 
 put-answer-requires : tie.Need-put-answer-requires

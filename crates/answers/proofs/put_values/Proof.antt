@@ -12,7 +12,7 @@ use mir.Syntax.{w64}
 use mir.Val.{SFits}
 use mir.Facts.{to_z-of_z}
 use Rattle.layout.specs.Shape.{cumulus}
-use Rattle.printing.specs.Spell.{spell, longestNumber, written}
+use Rattle.printing.specs.Spell.{spell, longest_number, written}
 use Rattle.printing.proofs.Digits.{spell-fits}
 use Rattle.printing.proofs.Writing.{written-sets, written-cons, written-append}
 use Rattle.answers.specs.Answers.{spaced}
@@ -22,7 +22,7 @@ use Rattle.answers.proofs.put_values.Tie as tie
 
 abbrev invariant-loop : tie.invariant-loop
 invariant-loop out₀ at values place₀ k₀ out place k =
-    (k ≤ cumulus.blocks) × (length out ≡ length out₀) × (place ≡ at + length (spaced (take k values))) × (length (spaced (take k values)) ≤ (1 + longestNumber) * k) × (out ≡ written out₀ at (spaced (take k values)))
+    (k ≤ cumulus.blocks) × (length out ≡ length out₀) × (place ≡ at + length (spaced (take k values))) × (length (spaced (take k values)) ≤ (1 + longest_number) * k) × (out ≡ written out₀ at (spaced (take k values)))
 
 abbrev decreases-loop : tie.decreases-loop
 decreases-loop out₀ at values place₀ k₀ out place k = cumulus.blocks - k

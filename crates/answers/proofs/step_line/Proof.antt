@@ -5,7 +5,7 @@ use Prim.Native.Nat.{ℕ, ◌-◌, ◌≤◌, ◌<◌}
 use native.Mathlib.Omega.{arith}
 use borrow.Author.Rules.{rules}
 use lib.ListN.{length, get_or}
-use Rattle.lines.specs.State.{stepped, steppedBy}
+use Rattle.lines.specs.State.{stepped, stepped_by}
 use Rattle.lines.specs.declared.State.{State}
 use Rattle.lines.proofs.Steps.{steps-append}
 use Rattle.answers.specs.Reading.{part, Plain}
@@ -15,7 +15,7 @@ use Rattle.answers.proofs.step_line.Tie as tie
 
 abbrev invariant-loop : tie.invariant-loop
 invariant-loop input from state₀ end₀ state end =
-    (from ≤ end) × (end ≤ length input) × (state ≡ steppedBy state₀ (part input from end)) × Plain (part input from end)
+    (from ≤ end) × (end ≤ length input) × (state ≡ stepped_by state₀ (part input from end)) × Plain (part input from end)
 
 abbrev decreases-loop : tie.decreases-loop
 decreases-loop input from state₀ end₀ state end = length input - end
@@ -23,7 +23,7 @@ decreases-loop input from state₀ end₀ state end = length input - end
 loop-holds : tie.Need-loop-init invariant-loop decreases-loop
 loop-holds c =
     let none = sym (part_none c.before.args.input.now c.before.args.from) in
-    (omega arith, c.before.requires, ap (steppedBy c.before.args.line) none, subst Plain none tt)
+    (omega arith, c.before.requires, ap (stepped_by c.before.args.line) none, subst Plain none tt)
 
 shared-slice-read-byte : tie.Need-shared-slice-read-byte invariant-loop decreases-loop
 shared-slice-read-byte c = search rules
@@ -51,7 +51,7 @@ loop-again c =
     let more = part-more a.input.now a.from l.loop.end l.loop.invariant.0 c.before.before.before.loop-test.true in (
       omega (arith, l.loop.invariant.0),
       omega (arith, c.before.before.before.loop-test.true),
-      c.step.ensures ∙ ap (λ (s : State). stepped s byte) l.loop.invariant.2 ∙ sym (steps-append a.line so_far (byte ∷ [])) ∙ ap (steppedBy a.line) (sym more),
+      c.step.ensures ∙ ap (λ (s : State). stepped s byte) l.loop.invariant.2 ∙ sym (steps-append a.line so_far (byte ∷ [])) ∙ ap (stepped_by a.line) (sym more),
       subst Plain (sym more) (plain_more so_far byte l.loop.invariant.3 c.before.if1.false),
     )
 

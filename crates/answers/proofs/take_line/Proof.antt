@@ -5,7 +5,7 @@ use native.Mathlib.Omega.{arith}
 use borrow.Author.Rules.{rules}
 use lib.ListN.{length}
 use Rattle.printing.specs.Spell.{written}
-use Rattle.answers.specs.Answers.{lineAnswer}
+use Rattle.answers.specs.Answers.{line_answer}
 use Rattle.answers.specs.Reading.{Taken}
 use Rattle.answers.proofs.Parts.{took-rest, took-line}
 use Rattle.answers.proofs.take_line.Statement.{statement}
@@ -43,7 +43,7 @@ returns-2 c =
     let part = e.before.before.step_line in
     let done = c.before.before.before.before.before.finish in
     let line = c.before.before.before.put-line in
-    let whole = ap (lineAnswer a.args.table.now) done.ensures in
+    let whole = ap (line_answer a.args.table.now) done.ensures in
     subst (Taken a.args.table.now a.args.reading a.args.input.now a.args.from a.args.out.now line.new.1.1.1.0 a.args.at)
     (ap (λ s. record { reading = s; taken = part.result.end + 1; put = line.result }) (sym c.fresh.ensures))
     (took-line a.args.table.now a.args.reading a.args.input.now a.args.from a.args.out.now a.args.at part.result part.ensures _ line.result e.if1.false

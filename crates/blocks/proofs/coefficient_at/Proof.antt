@@ -15,8 +15,8 @@ use Rattle.polynomials.specs.Order.{size}
 use Rattle.polynomials.specs.Group.{value}
 use Rattle.polynomials.specs.Groups.{value_of, total}
 use Rattle.layout.specs.declared.Kind.{Kind}
-use Rattle.layout.specs.Shape.{Shape, blockStart, shape, own, own_at, shared_at}
-use Rattle.layout.specs.Numbers.{tableSize}
+use Rattle.layout.specs.Shape.{Shape, block_start, shape, own, own_at, shared_at}
+use Rattle.layout.specs.Numbers.{table_size}
 use Rattle.layout.specs.Blocks.{piece, led, coefficient}
 use Rattle.layout.specs.Reading.{readings}
 use Rattle.layout.proofs.Fine.{FineKind, fine, fine-at, split, own-fine, two-groups, few-table}
@@ -59,19 +59,19 @@ module _ (c : tie.After-start invariant-loop decreases-loop) where
   step_is : c.before.size.result * n ≡ size (own S₀).degree * n
   step_is = ap (λ m. m * n) size_is
 
-  own-at : c.start.result + c.before.size.result * n ≡ own_at S₀ (blockStart S₀ b) n
+  own-at : c.start.result + c.before.size.result * n ≡ own_at S₀ (block_start S₀ b) n
   own-at = omega (arith, c.start.ensures, step_is)
 
-  shared-at : c.start.result + 2 * c.before.size.result ≡ shared_at S₀ (blockStart S₀ b)
+  shared-at : c.start.result + 2 * c.before.size.result ≡ shared_at S₀ (block_start S₀ b)
   shared-at = omega (arith, c.start.ensures, size_is)
 
-  own-within : own_at S₀ (blockStart S₀ b) n + size (own S₀).degree ≤ length t₀
+  own-within : own_at S₀ (block_start S₀ b) n + size (own S₀).degree ≤ length t₀
   own-within = own-long S₀ (split entry.args.model) t₀ b n entry.args.state.now entry.pre
 
-  shared-within : shared_at S₀ (blockStart S₀ b) ≤ length t₀
+  shared-within : shared_at S₀ (block_start S₀ b) ≤ length t₀
   shared-within = omega (arith, shared_long S₀ (split entry.args.model) t₀ b n entry.args.state.now entry.pre)
 
-  small : length t₀ ≤ tableSize
+  small : length t₀ ≤ table_size
   small = omega (arith, few-table entry.args.model, entry.pre.whole)
 
 -- ---- the group that is read

@@ -8,8 +8,8 @@ use borrow.Author.Rules.{rules}
 use lib.IntN.{ℤ}
 use lib.ListN.{length, drop}
 use Rattle.polynomials.specs.Order.{size}
-use Rattle.polynomials.specs.Binomial.{shiftIn}
-use Rattle.polynomials.specs.Groups.{grouped, movedGroup}
+use Rattle.polynomials.specs.Binomial.{shift_in}
+use Rattle.polynomials.specs.Groups.{grouped, moved_group}
 use Rattle.polynomials.proofs.Places.{below-highest}
 use Rattle.layout.specs.declared.Kind.{Kind}
 use Rattle.layout.specs.Shape.{Shape, shape}
@@ -22,7 +22,7 @@ use Rattle.blocks.proofs.move_block.Statement.{statement}
 use Rattle.blocks.proofs.move_block.Tie as tie
 
 abbrev invariant-loop : tie.invariant-loop
-invariant-loop model from out₀ variable rows size at₀ group₀ out at group = (group ≤ length (shape model).kinds) × Moved (shape model) variable (shiftIn rows) from out group at
+invariant-loop model from out₀ variable rows size at₀ group₀ out at group = (group ≤ length (shape model).kinds) × Moved (shape model) variable (shift_in rows) from out group at
 
 abbrev decreases-loop : tie.decreases-loop
 decreases-loop model from out₀ variable rows size at₀ group₀ out at group = length (shape model).kinds - group
@@ -42,7 +42,7 @@ module _ (c : tie.After-size invariant-loop decreases-loop) where
   v = entry.args.variable
 
   abbrev s₀ : ℤ
-  s₀ = shiftIn entry.args.rows.now
+  s₀ = shift_in entry.args.rows.now
 
   abbrev first : Kind
   first = c.before.kind.result
@@ -60,17 +60,17 @@ module _ (c : tie.After-size invariant-loop decreases-loop) where
   first_fine = subst (λ (k : Kind). FineKind S₀.variables k) (sym c.before.kind.ensures) (own-fine entry.args.model)
 
   -- moved from `a` to `e`
-  abbrev groupFrom : ℕ → ℕ → List ℤ
-  groupFrom a e = (movedGroup v s₀ (grouped first.u first.v (between from₀ a e))).numbers
+  abbrev group_from : ℕ → ℕ → List ℤ
+  group_from a e = (moved_group v s₀ (grouped first.u first.v (between from₀ a e))).numbers
 
   none-moved : Moved S₀ v s₀ from₀ entry.args.out.now 0 0
   none-moved = moved_none S₀ v s₀ from₀ entry.args.out.now entry.pre.1.0 entry.pre.1.1
 
   step : (g a e : ℕ) (out : List ℤ) → drop g S₀.kinds ≡ first ∷ drop (g + 1) S₀.kinds → a + n ≡ e → Moved S₀ v s₀ from₀ out g a
-      → Between from₀ out a e first.u first.v v s₀ × Moved S₀ v s₀ from₀ (placed out a e (groupFrom a e)) (g + 1) e
+      → Between from₀ out a e first.u first.v v s₀ × Moved S₀ v s₀ from₀ (placed out a e (group_from a e)) (g + 1) e
   step g a e out q p m =
       let is : a + size first.degree ≡ e = omega (arith, c.size.ensures, p) in
-      subst (λ e. Between from₀ out a e first.u first.v v s₀ × Moved S₀ v s₀ from₀ (placed out a e (groupFrom a e)) (g + 1) e) is (
+      subst (λ e. Between from₀ out a e first.u first.v v s₀ × Moved S₀ v s₀ from₀ (placed out a e (group_from a e)) (g + 1) e) is (
         record {
           same = m.same;
           order = omega arith;
@@ -126,7 +126,7 @@ module _ (c : tie.After-kind2 invariant-loop decreases-loop) where
 
   -- the shift that the rows are of
   abbrev s : ℤ
-  s = shiftIn start.args.rows.now
+  s = shift_in start.args.rows.now
 
   is-next : drop g S.kinds ≡ k ∷ drop (g + 1) S.kinds
   is-next = at-kind S g k (omega (arith, c.before.if1.true, c.before.before.groups.ensures)) c.kind2.ensures
@@ -202,7 +202,7 @@ loop-again c =
     let d = z.before in (
       omega (arith, d.before.if1.true, d.before.before.groups.ensures),
       subst (λ l. Moved (S d) (i d) (s d) (from d) l (g d + 1) (at d + z.size2.result)) (sym m.move-between3.ensures)
-          (subst (λ e. Moved (S d) (i d) (s d) (from d) (placed (out d) (at d) (at d + e) (movedGroup (i d) (s d) (grouped (k d).u (k d).v (between (from d) (at d) (at d + e)))).numbers) (g d + 1) (at d + e))
+          (subst (λ e. Moved (S d) (i d) (s d) (from d) (placed (out d) (at d) (at d + e) (moved_group (i d) (s d) (grouped (k d).u (k d).v (between (from d) (at d) (at d + e)))).numbers) (g d + 1) (at d + e))
           (sym z.size2.ensures) (moved_more (S d) (i d) (s d) (from d) (out d) (g d) (at d) (before d) (k d) (is-next d))),
     )
 

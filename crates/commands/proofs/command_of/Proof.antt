@@ -8,8 +8,8 @@ use borrow.Author.Rules.{rules}
 use borrow.Author.Tests.{ltb-true, not-false}
 use lib.Dec.{ltb}
 use lib.ListN.{length}
-use Rattle.words.specs.Words.{words, wordAt}
-use Rattle.commands.specs.Commands.{name_at, asked, starts_with, placeOf, fits, command}
+use Rattle.words.specs.Words.{words, word_at}
+use Rattle.commands.specs.Commands.{name_at, asked, starts_with, place_of, fits, command}
 use Rattle.commands.specs.declared.Command.{Command}
 use Rattle.commands.specs.declared.Command.TheVariants as C
 use Rattle.commands.proofs.command_of.Statement.{statement}
@@ -18,23 +18,23 @@ use Rattle.commands.proofs.command_of.Tie as tie
 -- what the three tests choose
 abbrev chosen : List ℕ → Bool → Bool → Bool → Command
 chosen line s t u =
-    cond s C.Blank (cond t C.Comment (cond u (asked (name_at (placeOf line)) line) (C.Misused (name_at (placeOf line)))))
+    cond s C.Blank (cond t C.Comment (cond u (asked (name_at (place_of line)) line) (C.Misused (name_at (place_of line)))))
 
-by_tests : (line : List ℕ) (s t u : Bool) → s ≡ not (ltb 0 (length (words line))) → t ≡ starts_with 35 (wordAt line 0) → u ≡ fits line (placeOf line) → chosen line s t u ≡ command line
+by_tests : (line : List ℕ) (s t u : Bool) → s ≡ not (ltb 0 (length (words line))) → t ≡ starts_with 35 (word_at line 0) → u ≡ fits line (place_of line) → chosen line s t u ≡ command line
 by_tests line s t u e f g =
     ap (λ s. chosen line s t u) e
     ∙ ap (λ t. chosen line (not (ltb 0 (length (words line)))) t u) f
-    ∙ ap (chosen line (not (ltb 0 (length (words line)))) (starts_with 35 (wordAt line 0))) g
+    ∙ ap (chosen line (not (ltb 0 (length (words line)))) (starts_with 35 (word_at line 0))) g
 
 -- a line that is no comment
 module _ (c : tie.After-fits2) where
   abbrev line : List ℕ
   line = c.before.before.before.before.before.before.before.before.args.line.now
 
-  place : c.before.before.place_of.result ≡ placeOf line
+  place : c.before.before.place_of.result ≡ place_of line
   place = c.before.before.place_of.ensures
 
-  name : c.before.name-at.result ≡ name_at (placeOf line)
+  name : c.before.name-at.result ≡ name_at (place_of line)
   name = c.before.name-at.ensures ∙ ap name_at place
 
   by-fit : (u : Bool) → c.fits2.result ≡ u → chosen line false false u ≡ command line
@@ -51,7 +51,7 @@ returns : tie.Need-returns
 returns c =
     let has = c.before.Has-word in
     let line = c.before.before.before.args.line.now in
-    by_tests line true (starts_with 35 (wordAt line 0)) (fits line (placeOf line)) (sym c.if1.true ∙ ap not has.ensures) refl refl
+    by_tests line true (starts_with 35 (word_at line 0)) (fits line (place_of line)) (sym c.if1.true ∙ ap not has.ensures) refl refl
 
 is-comment-requires : tie.Need-is-comment-requires
 is-comment-requires c κs =
@@ -62,7 +62,7 @@ returns-2 : tie.Need-returns-2
 returns-2 c =
     let has = c.before.before.before.Has-word in
     let line = c.before.before.before.before.before.args.line.now in
-    by_tests line false true (fits line (placeOf line)) (sym c.before.before.if1.false ∙ ap not has.ensures) (sym c.if2.true ∙ c.before.is-comment.ensures) refl
+    by_tests line false true (fits line (place_of line)) (sym c.before.before.if1.false ∙ ap not has.ensures) (sym c.if2.true ∙ c.before.is-comment.ensures) refl
 
 place-of-requires : tie.Need-place-of-requires
 place-of-requires c κs = search rules

@@ -11,7 +11,7 @@ use borrow.Author.Tests.{not-true, not-false}
 use lib.ListN.{drop, get_or, take, drop_of_length-le}
 use lib.Seq.{slice, slice-cons, length-take-le}
 use Rattle.words.specs.Words.{words}
-use Rattle.numbers.specs.Numbers.{isNumber}
+use Rattle.numbers.specs.Numbers.{is_number}
 use Rattle.commands.specs.Commands.{fit}
 use Rattle.commands.proofs.Fitting.{fit-more, fit-end}
 use Rattle.commands.proofs.fit.Statement.{statement}
@@ -55,7 +55,7 @@ module _ (c : tie.After-is-number invariant-loop decreases-loop) where
       let b = get_or start.args.kinds.now at.loop.at 0 in
       let some = slice-cons at.loop.at start.args.end start.args.kinds.now 0 c.before.before.before.loop-test.true start.pre
       ∙ ap (λ n. b ∷ slice n start.args.end start.args.kinds.now) (sym (add-one at.loop.at)) in
-      let said = sym e ∙ c.is_number.ensures ∙ ap (isNumber line at.loop.k) c.before.kind-of.ensures in
+      let said = sym e ∙ c.is_number.ensures ∙ ap (is_number line at.loop.k) c.before.kind-of.ensures in
       ap (λ t. t && fit (drop (at.loop.k + 1) (words line)) bs) said
       ∙ sym (fit-more (words line) at.loop.k b bs)
       ∙ sym (ap (fit (drop at.loop.k (words line))) some)

@@ -3,7 +3,7 @@ use mathlib.Core.Path.{◌≡◌, sym, ap}
 use Prim.Native.Nat.{ℕ, zero, suc, ◌≤◌}
 use native.Mathlib.Omega.{arith}
 use lib.ListN.{get_or-eq_default}
-use Rattle.commands.specs.Commands.{nameCount, named, name_at}
+use Rattle.commands.specs.Commands.{name_count, named, name_at}
 use Rattle.commands.specs.declared.Name.TheVariants as N
 use Rattle.commands.proofs.name_at.Statement.{statement}
 use Rattle.commands.proofs.name_at.Tie as tie
@@ -36,4 +36,4 @@ name-at-spec =
     (λ c. sym (ap name_at c.match.keys13))
     (λ c. sym (ap name_at c.match.keys14))
     (λ c. sym (ap name_at c.match.keys15))
-    (λ c. sym (get_or-eq_default named N.Other {n = c.before.args.place} (behind nameCount c.before.args.place c.match.rest))))
+    (λ c. sym (get_or-eq_default named N.Other {n = c.before.args.place} (behind name_count c.before.args.place c.match.rest))))

@@ -7,17 +7,17 @@ use Prim.Native.Nat.{ℕ, suc, ◌+◌, ◌-◌}
 use native.Mathlib.Omega.{arith}
 use borrow.Author.Rules.{rules}
 use lib.ListN.{drop}
-use Rattle.words.specs.Words.{words, wordAt}
-use Rattle.commands.specs.Commands.{nameCount, place}
+use Rattle.words.specs.Words.{words, word_at}
+use Rattle.commands.specs.Commands.{name_count, place}
 use Rattle.commands.proofs.Fitting.{place-more, place_end}
 use Rattle.commands.proofs.place_in.Statement.{statement}
 use Rattle.commands.proofs.place_in.Tie as tie
 
 abbrev invariant-loop : tie.invariant-loop
-invariant-loop line names k₀ k = k + place (wordAt line 0) (drop k (words names)) ≡ place (wordAt line 0) (words names)
+invariant-loop line names k₀ k = k + place (word_at line 0) (drop k (words names)) ≡ place (word_at line 0) (words names)
 
 abbrev decreases-loop : tie.decreases-loop
-decreases-loop line names k₀ k = nameCount - k
+decreases-loop line names k₀ k = name_count - k
 
 loop-holds : tie.Need-loop-init invariant-loop decreases-loop
 loop-holds c = omega arith
@@ -31,7 +31,7 @@ module _ (c : tie.After-same-word invariant-loop decreases-loop) where
   start = c.before.before.before.before.before
 
   abbrev word : List ℕ
-  word = wordAt start.args.line.now 0
+  word = word_at start.args.line.now 0
 
   abbrev ws : List (List ℕ)
   ws = words start.args.names.now
@@ -60,7 +60,7 @@ returns-2 : tie.Need-returns-2 invariant-loop decreases-loop
 returns-2 c =
     let l = c.before in
     let s = l.before.before.before in
-    let w = wordAt s.args.line.now 0 in
+    let w = word_at s.args.line.now 0 in
     omega (arith, place_end (words s.args.names.now) l.loop.k w (omega (arith, s.requires, c.loop-test.false)), l.loop.invariant)
 
 pub place-in-spec : {M : Type 1} → statement M

@@ -10,12 +10,12 @@ use mir.Syntax.{w64}
 use mir.Val.{SFits, to_z, of_z}
 use mir.Facts.{to_z-of_z}
 use Rattle.polynomials.specs.Groups.{total}
-use Rattle.polynomials.proofs.Listed.{getD-listed}
+use Rattle.polynomials.proofs.Listed.{get_or-listed}
 use Rattle.layout.specs.Shape.{cumulus}
 use Rattle.layout.specs.Blocks.{coefficient, piece}
 use Rattle.layout.specs.Reading.{readings}
 use Rattle.rounding.specs.Answer.{float_of}
-use Rattle.door.specs.Steps.{positiveZero}
+use Rattle.door.specs.Steps.{positive_zero}
 use Rattle.door.proofs.answered.Statement.{statement}
 use Rattle.door.proofs.answered.Tie as tie
 
@@ -72,7 +72,7 @@ module _ (c : tie.After-write-values) where
   -- the float of one
   answer-is : (b : ℕ) → b < cumulus.blocks → (f : Float) → f ≡ float_of (to_z w64 (of_z w64 (get_or c.write-values.new.1.1.1.1.0 b (pos 0)))) → SFits w64 (get_or c.write-values.new.1.1.1.1.0 b (pos 0)) → f ≡ float_of (value_at b)
   unfolding value_at
-  answer-is b h f e k = e ∙ ap float_of (to_z-of_z k ∙ ap (λ l. get_or l b (pos 0)) c.write-values.ensures ∙ getD-listed cumulus.blocks _ b (pos 0) h)
+  answer-is b h f e k = e ∙ ap float_of (to_z-of_z k ∙ ap (λ l. get_or l b (pos 0)) c.write-values.ensures ∙ get_or-listed cumulus.blocks _ b (pos 0) h)
 
 returns : tie.Need-returns
 unfolding of_bits value_at
@@ -80,7 +80,7 @@ returns c =
     let w = c.before.before.before.before.before.before.before.before.before.before.before.before.before in λ i.
     record {
       number = 0;
-      reading = positiveZero;
+      reading = positive_zero;
       x = answer-is w 0 (omega arith) _ c.before.before.before.before.before.before.before.before.before.before.answer.ensures (sfits_of c.before.before.before.before.before.before.before.before.before.before.before.answer-arg.given) i;
       y = answer-is w 1 (omega arith) _ c.before.before.before.before.before.before.before.before.answer2.ensures (sfits_of c.before.before.before.before.before.before.before.before.before.answer-arg2.given) i;
       z = answer-is w 2 (omega arith) _ c.before.before.before.before.before.before.answer3.ensures (sfits_of c.before.before.before.before.before.before.before.answer-arg3.given) i;

@@ -9,14 +9,14 @@ use borrow.Author.Count.{below_more}
 use Rattle.layout.specs.Shape.{cumulus}
 use Rattle.limits.proofs.Firsts.{first-none, first-at}
 use Rattle.rounding.specs.declared.Step.TheVariants.{NotFinite}
-use Rattle.door.specs.Steps.{number_of, isNotFinite, stepsOf}
+use Rattle.door.specs.Steps.{number_of, is_not_finite, steps_of}
 use Rattle.door.proofs.Cases.{finite-left}
-use Rattle.door.proofs.Numbers.{refusedNotFinite}
+use Rattle.door.proofs.Numbers.{refused_not_finite}
 use Rattle.door.proofs.not_finite.Statement.{statement}
 use Rattle.door.proofs.not_finite.Tie as tie
 
 abbrev invariant-loop : tie.invariant-loop
-invariant-loop steps i₀ i = (i ≤ cumulus.variables) × ((j : ℕ) → j < i → isNotFinite (stepsOf steps j) ≡ false)
+invariant-loop steps i₀ i = (i ≤ cumulus.variables) × ((j : ℕ) → j < i → is_not_finite (steps_of steps j) ≡ false)
 
 abbrev decreases-loop : tie.decreases-loop
 decreases-loop steps i₀ i = cumulus.variables - i
@@ -40,8 +40,8 @@ returns : tie.Need-returns invariant-loop decreases-loop
 returns c =
     let l = c.before.before.before.before.loop in
     let s = c.before.before.before.before.before.args.t1 in
-    let e : stepsOf s l.i ≡ NotFinite = c.enum_told.given.1 in
-    sym (first-at (refusedNotFinite (stepsOf s)) l.i l.invariant.1 (ap isNotFinite e) cumulus.variables c.before.before.before.loop-test.true ∙ ap (number_of cumulus l.i) e)
+    let e : steps_of s l.i ≡ NotFinite = c.enum_told.given.1 in
+    sym (first-at (refused_not_finite (steps_of s)) l.i l.invariant.1 (ap is_not_finite e) cumulus.variables c.before.before.before.loop-test.true ∙ ap (number_of cumulus l.i) e)
 
 add-i : tie.Need-overflow-add-i invariant-loop decreases-loop
 add-i c = search rules
@@ -54,14 +54,14 @@ loop-again c =
     let l = c.before.before.before.loop in
     let s = c.before.before.before.before.args.t1 in (
       omega (arith, c.before.before.loop-test.true),
-      below_more (λ j. isNotFinite (stepsOf s j) ≡ false) l.i l.invariant.1 (finite-left (stepsOf s l.i) c.match.keys2),
+      below_more (λ j. is_not_finite (steps_of s j) ≡ false) l.i l.invariant.1 (finite-left (steps_of s l.i) c.match.keys2),
     )
 
 returns-2 : tie.Need-returns-2 invariant-loop decreases-loop
 returns-2 c =
     let l = c.before.loop in
     let s = c.before.before.args.t1 in
-    sym (first-none (refusedNotFinite (stepsOf s)) cumulus.variables (λ j h. l.invariant.1 j (omega (arith, l.invariant.0, c.loop-test.false))))
+    sym (first-none (refused_not_finite (steps_of s)) cumulus.variables (λ j h. l.invariant.1 j (omega (arith, l.invariant.0, c.loop-test.false))))
 
 pub not-finite-spec : {M : Type 1} → statement M
 not-finite-spec =

@@ -11,15 +11,15 @@ use Rattle.layout.specs.Shape.{cumulus}
 use Rattle.layout.specs.Refusals.{first, outside}
 use Rattle.limits.proofs.Firsts.{first-none, first-at}
 use Rattle.rounding.specs.declared.Step.TheVariants.{Outside}
-use Rattle.door.specs.Steps.{number_of, handedBack, isOutside, stepsOf}
-use Rattle.door.specs.Door.{outsides, readingFor, refusedWith}
-use Rattle.door.proofs.Numbers.{refusedOutside, back-given}
+use Rattle.door.specs.Steps.{number_of, handed_back, is_outside, steps_of}
+use Rattle.door.specs.Door.{outsides, reading_for, refused_with}
+use Rattle.door.proofs.Numbers.{refused_outside, back-given}
 use Rattle.door.proofs.Cases.{inside-left}
 use Rattle.door.proofs.outside.Statement.{statement}
 use Rattle.door.proofs.outside.Tie as tie
 
 abbrev invariant-loop : tie.invariant-loop
-invariant-loop steps i₀ i = (i ≤ cumulus.variables) × ((j : ℕ) → j < i → isOutside (stepsOf steps j) ≡ false)
+invariant-loop steps i₀ i = (i ≤ cumulus.variables) × ((j : ℕ) → j < i → is_outside (steps_of steps j) ≡ false)
 
 abbrev decreases-loop : tie.decreases-loop
 decreases-loop steps i₀ i = cumulus.variables - i
@@ -47,13 +47,13 @@ returns c =
     let d = c.before.before in
     let l = d.before.before.before.before.loop in
     let s = d.before.before.before.before.before.args.t1 in
-    let e : stepsOf s l.i ≡ Outside d.step2.given.0.0 = d.step2.given.1 in
-    let n : first (outsides cumulus cumulus.variables (stepsOf s)) ≡ outside cumulus l.i =
-    first-at (refusedOutside (stepsOf s)) l.i l.invariant.1 (ap isOutside e) cumulus.variables d.before.before.before.loop-test.true ∙ ap (number_of cumulus l.i) e
+    let e : steps_of s l.i ≡ Outside d.step2.given.0.0 = d.step2.given.1 in
+    let n : first (outsides cumulus cumulus.variables (steps_of s)) ≡ outside cumulus l.i =
+    first-at (refused_outside (steps_of s)) l.i l.invariant.1 (ap is_outside e) cumulus.variables d.before.before.before.loop-test.true ∙ ap (number_of cumulus l.i) e
     in
     c.refused.ensures
-    ∙ ap (refusedWith (outside cumulus l.i)) (sym (back-given (stepsOf s) l.i d.before.before.before.loop-test.true ∙ ap handedBack e))
-    ∙ ap (λ k. refusedWith k (readingFor cumulus (stepsOf s) k)) (sym n)
+    ∙ ap (refused_with (outside cumulus l.i)) (sym (back-given (steps_of s) l.i d.before.before.before.loop-test.true ∙ ap handed_back e))
+    ∙ ap (λ k. refused_with k (reading_for cumulus (steps_of s) k)) (sym n)
 
 add-i : tie.Need-overflow-add-i invariant-loop decreases-loop
 add-i c = search rules
@@ -66,7 +66,7 @@ loop-again c =
     let l = c.before.before.before.loop in
     let s = c.before.before.before.before.args.t1 in (
       omega (arith, c.before.before.loop-test.true),
-      below_more (λ j. isOutside (stepsOf s j) ≡ false) l.i l.invariant.1 (inside-left (stepsOf s l.i) c.match.keys2),
+      below_more (λ j. is_outside (steps_of s j) ≡ false) l.i l.invariant.1 (inside-left (steps_of s l.i) c.match.keys2),
     )
 
 refused-requires-2 : tie.Need-refused-requires-2 invariant-loop decreases-loop
@@ -77,8 +77,8 @@ unfolding of_bits
 returns-2 c =
     let l = c.before.before.loop in
     let s = c.before.before.before.args.t1 in
-    let n : first (outsides cumulus cumulus.variables (stepsOf s)) ≡ 0 = first-none (refusedOutside (stepsOf s)) cumulus.variables (λ j h. l.invariant.1 j (omega (arith, l.invariant.0, c.before.loop-test.false))) in
-    c.refused2.ensures ∙ ap (λ k. refusedWith k (readingFor cumulus (stepsOf s) k)) (sym n)
+    let n : first (outsides cumulus cumulus.variables (steps_of s)) ≡ 0 = first-none (refused_outside (steps_of s)) cumulus.variables (λ j h. l.invariant.1 j (omega (arith, l.invariant.0, c.before.loop-test.false))) in
+    c.refused2.ensures ∙ ap (λ k. refused_with k (reading_for cumulus (steps_of s) k)) (sym n)
 
 pub outside-spec : {M : Type 1} → statement M
 outside-spec =

@@ -10,25 +10,25 @@ use lib.IntN.{ℤ, pos}
 use lib.ListN.{length, get_or}
 use lib.Ieee.{Float, of_bits}
 use Rattle.polynomials.specs.Groups.{total}
-use Rattle.polynomials.proofs.Listed.{length-listed, getD-listed, listed-ext}
+use Rattle.polynomials.proofs.Listed.{length-listed, get_or-listed, listed-ext}
 use Rattle.layout.specs.declared.Model.TheVariants.{Cumulus}
-use Rattle.layout.specs.Shape.{cumulus, tableLength}
-use Rattle.layout.specs.Limits.{fineCut, good, allInRange}
+use Rattle.layout.specs.Shape.{cumulus, table_length}
+use Rattle.layout.specs.Limits.{fine_cut, good, all_in_range}
 use Rattle.layout.specs.Blocks.{piece, coefficient}
 use Rattle.layout.specs.Sound.{light}
 use Rattle.layout.specs.Refusals.{first, ◌when◌}
 use Rattle.layout.specs.Reading.{readings, inside}
 use Rattle.layout.proofs.Fine.{well-formed}
 use Rattle.laws.proofs.Weights.{total-agreed}
-use Rattle.laws.proofs.LimitLaws.{limits-take, lowest-same, highest-same, fine-same, allInRange-same, good-facts, counted-half, counted-piece}
+use Rattle.laws.proofs.LimitLaws.{limits-take, lowest-same, highest-same, fine-same, all_in_range-same, good-facts, counted-half, counted-piece}
 use Rattle.tables.proofs.Steps.{first-apart, known-sound, valued-in, positive}
 use Rattle.rounding.specs.Reading.{step_of}
 use Rattle.rounding.specs.Answer.{float_of}
-use Rattle.thousandths.specs.Thousandths.{atMostThousandths}
+use Rattle.thousandths.specs.Thousandths.{at_most_thousandths}
 use Rattle.rounding.specs.declared.Step.{Step}
 use Rattle.rounding.specs.declared.Step.TheVariants.{Whole}
-use Rattle.door.specs.Steps.{positiveZero, number_of, wholeIn, isNotFinite, isOutside, stepsOf}
-use Rattle.door.specs.Door.{floats, roundedAll, stepAt, notFinites, outsides, doorNumber, readingFor, truePiece, answerWith}
+use Rattle.door.specs.Steps.{positive_zero, number_of, whole_in, is_not_finite, is_outside, steps_of}
+use Rattle.door.specs.Door.{floats, rounded_all, step_at, not_finites, outsides, door_number, reading_for, true_piece, answer_with}
 use Rattle.door.proofs.Numbers.{door-refused, door-sound, table-small, not-finite-number, past-finite, back_below, back_above, back-agreed, refused-answer, done-answer}
 use Rattle.door.proofs.Wholes.{step-finite, step-whole, rounded-inside}
 use Rattle.door.proofs.Pieces.{near-alpha, within-piece}
@@ -47,12 +47,12 @@ module _ (c : tie.Else1) where
   x = floats start.args.t2
 
   abbrev s : ℕ → Step
-  s = stepAt cumulus t x
+  s = step_at cumulus t x
 
-  known : (length t ≡ tableLength cumulus) × ((good cumulus t ≡ true) × (light cumulus t ≡ true))
+  known : (length t ≡ table_length cumulus) × ((good cumulus t ≡ true) × (light cumulus t ≡ true))
   known = known-sound cumulus t (sym c.before.refusal-of.ensures ∙ c.if1.left)
 
-  number_is : doorNumber cumulus t x ≡ first (notFinites cumulus cumulus.variables s ++ outsides cumulus cumulus.variables s)
+  number_is : door_number cumulus t x ≡ first (not_finites cumulus cumulus.variables s ++ outsides cumulus cumulus.variables s)
   number_is = door-sound t x known.0 known.1
 
 -- ---- its steps
@@ -60,22 +60,22 @@ module _ (c : tie.After-steps-of) where
   abbrev there : tie.Else1
   there = c.before.before
 
-  same_step : (i : ℕ) → i < cumulus.variables → stepAt cumulus c.before.of.result.numbers (x there) i ≡ s there i
+  same_step : (i : ℕ) → i < cumulus.variables → step_at cumulus c.before.of.result.numbers (x there) i ≡ s there i
   same_step i h =
-      ap (λ l. stepAt cumulus l (x there) i) c.before.of.ensures.1
+      ap (λ l. step_at cumulus l (x there) i) c.before.of.ensures.1
       ∙ ap₂ (step_of (x there i)) (lowest-same (limits-take cumulus (t there)) i h) (highest-same (limits-take cumulus (t there)) i h)
 
-  step_is : (i : ℕ) → i < cumulus.variables → stepsOf c.steps_of.result i ≡ s there i
+  step_is : (i : ℕ) → i < cumulus.variables → steps_of c.steps_of.result i ≡ s there i
   step_is i h =
-      ap (λ l. stepsOf l i) c.steps_of.ensures ∙ getD-listed cumulus.variables (stepAt cumulus c.before.of.result.numbers (x there)) i (Whole (pos 0)) h ∙ same_step i h
+      ap (λ l. steps_of l i) c.steps_of.ensures ∙ get_or-listed cumulus.variables (step_at cumulus c.before.of.result.numbers (x there)) i (Whole (pos 0)) h ∙ same_step i h
 
-  not-finites-are : notFinites cumulus cumulus.variables (stepsOf c.steps_of.result) ≡ notFinites cumulus cumulus.variables (s there)
-  not-finites-are = listed-ext (0 when true) cumulus.variables _ _ (λ i h. ap (λ r. number_of cumulus i r when isNotFinite r) (step_is i h))
+  not-finites-are : not_finites cumulus cumulus.variables (steps_of c.steps_of.result) ≡ not_finites cumulus cumulus.variables (s there)
+  not-finites-are = listed-ext (0 when true) cumulus.variables _ _ (λ i h. ap (λ r. number_of cumulus i r when is_not_finite r) (step_is i h))
 
-  outsides-are : outsides cumulus cumulus.variables (stepsOf c.steps_of.result) ≡ outsides cumulus cumulus.variables (s there)
-  outsides-are = listed-ext (0 when true) cumulus.variables _ _ (λ i h. ap (λ r. number_of cumulus i r when isOutside r) (step_is i h))
+  outsides-are : outsides cumulus cumulus.variables (steps_of c.steps_of.result) ≡ outsides cumulus cumulus.variables (s there)
+  outsides-are = listed-ext (0 when true) cumulus.variables _ _ (λ i h. ap (λ r. number_of cumulus i r when is_outside r) (step_is i h))
 
-unread-is : (c : tie.After-not-finite) → c.not-Finite.result ≡ first (notFinites cumulus cumulus.variables (s (there c.before)))
+unread-is : (c : tie.After-not-finite) → c.not-Finite.result ≡ first (not_finites cumulus cumulus.variables (s (there c.before)))
 unread-is c = c.not-Finite.ensures ∙ ap first (not-finites-are c.before)
 
 -- ---- five finite readings
@@ -83,13 +83,13 @@ module _ (c : tie.After-outside) where
   abbrev steps : tie.After-steps-of
   steps = c.before.before.before
 
-  finite : first (notFinites cumulus cumulus.variables (s (there steps))) ≡ 0
+  finite : first (not_finites cumulus cumulus.variables (s (there steps))) ≡ 0
   finite = sym (unread-is c.before.before) ∙ c.before.if2.left
 
-  outside-is : first (outsides cumulus cumulus.variables (stepsOf steps.steps_of.result)) ≡ doorNumber cumulus (t (there steps)) (x (there steps))
+  outside-is : first (outsides cumulus cumulus.variables (steps_of steps.steps_of.result)) ≡ door_number cumulus (t (there steps)) (x (there steps))
   outside-is = ap first (outsides-are steps) ∙ sym (number_is (there steps) ∙ past-finite (s (there steps)) cumulus.variables finite)
 
-  past-number : c.outside.result.number ≡ doorNumber cumulus (t (there steps)) (x (there steps))
+  past-number : c.outside.result.number ≡ door_number cumulus (t (there steps)) (x (there steps))
   past-number = ap (λ r. r.number) c.outside.ensures ∙ outside-is
 
 -- ---- five readings inside
@@ -103,18 +103,18 @@ module _ (c : tie.After-wholes-in) where
   abbrev w : ℕ → ℤ
   w = readings c.wholes-in.result
 
-  nothing : doorNumber cumulus (t d) (x d) ≡ 0
+  nothing : door_number cumulus (t d) (x d) ≡ 0
   nothing = sym (past-number past) ∙ c.before.if3.left
 
   within : first (outsides cumulus cumulus.variables (s d)) ≡ 0
   within = sym (number_is d ∙ past-finite (s d) cumulus.variables (finite past)) ∙ nothing
 
-  state-is : (i : ℕ) → i < cumulus.variables → w i ≡ roundedAll (x d) i
+  state-is : (i : ℕ) → i < cumulus.variables → w i ≡ rounded_all (x d) i
   state-is i h =
-      ap (λ l. get_or l i (pos 0)) c.wholes-in.ensures ∙ getD-listed cumulus.variables (λ k. wholeIn (stepsOf (steps past).steps_of.result k)) i (pos 0) h
-      ∙ ap wholeIn (step_is (steps past) i h ∙ step-whole (t d) (x d) (finite past) within i h)
+      ap (λ l. get_or l i (pos 0)) c.wholes-in.ensures ∙ get_or-listed cumulus.variables (λ k. whole_in (steps_of (steps past).steps_of.result k)) i (pos 0) h
+      ∙ ap whole_in (step_is (steps past) i h ∙ step-whole (t d) (x d) (finite past) within i h)
 
-  in-limits : (i : ℕ) → i < cumulus.variables → inside cumulus (t d) (roundedAll (x d)) i ≡ true
+  in-limits : (i : ℕ) → i < cumulus.variables → inside cumulus (t d) (rounded_all (x d)) i ≡ true
   in-limits = rounded-inside (t d) (x d) (finite past) within
 
 -- ---- the piece
@@ -126,18 +126,18 @@ module _ (c : tie.After-true-piece) where
   n = c.true-piece.result
 
   abbrev low-is : Bool
-  low-is = atMostThousandths (x (d all) 0) (fineCut cumulus (t (d all)))
+  low-is = at_most_thousandths (x (d all) 0) (fine_cut cumulus (t (d all)))
 
   piece-number : n ≡ cond low-is 0 1
   piece-number =
       let o = (steps (past all)).before.of in
       c.true-piece.ensures
-      ∙ ap (λ k. cond (atMostThousandths (x (d all) 0) k) 0 1) (ap (fineCut cumulus) o.ensures.1 ∙ fine-same (limits-take cumulus (t (d all))) refl (omega arith))
+      ∙ ap (λ k. cond (at_most_thousandths (x (d all) 0) k) 0 1) (ap (fine_cut cumulus) o.ensures.1 ∙ fine-same (limits-take cumulus (t (d all))) refl (omega arith))
 
   half : n < 2
   half = counted-half low-is piece-number
 
-  piece_is : truePiece cumulus (t (d all)) (x (d all) 0) ≡ piece n
+  piece_is : true_piece cumulus (t (d all)) (x (d all) 0) ≡ piece n
   piece_is = counted-piece low-is piece-number
 
 refusal-of-requires : tie.Need-refusal-of-requires
@@ -153,8 +153,8 @@ returns c =
     let a = r.before.args in
     let n = r.refusal-of.result in
     c.refused.ensures
-    ∙ refused-answer a.table.now (floats a.t2) n positiveZero (door-refused a.table.now (floats a.t2) n r.refusal-of.ensures c.before.if1.taken) (positive c.before.if1.taken)
-    (back_below (stepAt cumulus a.table.now (floats a.t2)) n (subst (λ k. k < 11) (sym r.refusal-of.ensures) (table-small a.table.now)))
+    ∙ refused-answer a.table.now (floats a.t2) n positive_zero (door-refused a.table.now (floats a.t2) n r.refusal-of.ensures c.before.if1.taken) (positive c.before.if1.taken)
+    (back_below (step_at cumulus a.table.now (floats a.t2)) n (subst (λ k. k < 11) (sym r.refusal-of.ensures) (table-small a.table.now)))
 
 of-requires : tie.Need-of-requires
 of-requires c κs = omega (arith, (known c).0)
@@ -162,7 +162,7 @@ of-requires c κs = omega (arith, (known c).0)
 steps-of-requires : tie.Need-steps-of-requires
 steps-of-requires c κs =
     let d = c.before in
-    (c.of.ensures.0, ap (allInRange cumulus) c.of.ensures.1 ∙ allInRange-same (limits-take cumulus (t d)) ∙ (good-facts cumulus (t d) (known d).1.0).range)
+    (c.of.ensures.0, ap (all_in_range cumulus) c.of.ensures.1 ∙ all_in_range-same (limits-take cumulus (t d)) ∙ (good-facts cumulus (t d) (known d).1.0).range)
 
 not-finite-requires : tie.Need-not-finite-requires
 not-finite-requires c κs = tt
@@ -175,10 +175,10 @@ unfolding of_bits
 returns-2 c =
     let f = c.before.before in
     let d = there f.before in
-    let apart : first (notFinites cumulus cumulus.variables (s d)) ≡ 0 → ⊥ = λ z. c.before.if2.taken (unread-is f ∙ z) in
-    let number : doorNumber cumulus (t d) (x d) ≡ f.not-Finite.result = number_is d ∙ first-apart (notFinites cumulus cumulus.variables (s d)) (outsides cumulus cumulus.variables (s d)) apart ∙ sym (unread-is f) in
+    let apart : first (not_finites cumulus cumulus.variables (s d)) ≡ 0 → ⊥ = λ z. c.before.if2.taken (unread-is f ∙ z) in
+    let number : door_number cumulus (t d) (x d) ≡ f.not-Finite.result = number_is d ∙ first-apart (not_finites cumulus cumulus.variables (s d)) (outsides cumulus cumulus.variables (s d)) apart ∙ sym (unread-is f) in
     c.refused2.ensures
-    ∙ refused-answer (t d) (x d) f.not-Finite.result positiveZero number (positive c.before.if2.taken)
+    ∙ refused-answer (t d) (x d) f.not-Finite.result positive_zero number (positive c.before.if2.taken)
     (back_above (s d) f.not-Finite.result (omega (arith, unread-is f, not-finite-number (s d) cumulus.variables apart)))
 
 outside-requires : tie.Need-outside-requires
@@ -188,11 +188,11 @@ returns-3 : tie.Need-returns-3
 returns-3 c =
     let o = c.before.before in
     let d = there (steps o) in
-    let n = first (outsides cumulus cumulus.variables (stepsOf (steps o).steps_of.result)) in
+    let n = first (outsides cumulus cumulus.variables (steps_of (steps o).steps_of.result)) in
     let apart : n ≡ 0 → ⊥ = λ z. c.if3.taken (ap (λ r. r.number) o.outside.ensures ∙ z) in
     o.outside.ensures
-    ∙ refused-answer (t d) (x d) n (readingFor cumulus (stepsOf (steps o).steps_of.result) n) (sym (outside-is o)) (positive apart)
-    (sym (back-agreed (stepsOf (steps o).steps_of.result) (s d) (step_is (steps o)) n))
+    ∙ refused-answer (t d) (x d) n (reading_for cumulus (steps_of (steps o).steps_of.result) n) (sym (outside-is o)) (positive apart)
+    (sym (back-agreed (steps_of (steps o).steps_of.result) (s d) (step_is (steps o)) n))
 
 wholes-in-requires : tie.Need-wholes-in-requires
 wholes-in-requires c κs = tt
@@ -216,9 +216,9 @@ returns-4 : tie.Need-returns-4
 returns-4 c =
     let p = c.before in
     let a = all p in
-    let at = roundedAll (x (d a)) in
+    let at = rounded_all (x (d a)) in
     c.answered.ensures
-    ∙ ap (answerWith 0 positiveZero)
+    ∙ ap (answer_with 0 positive_zero)
     (fun_ext (λ b. ap float_of (total-agreed cumulus (well-formed Cumulus).in-variables (t (d a)) b (piece (n p)) (w a) at (state-is a) ∙ ap (λ q. total (coefficient cumulus (t (d a)) b q) at) (sym (piece_is p)))))
     ∙ done-answer (t (d a)) (x (d a)) (nothing a)
 

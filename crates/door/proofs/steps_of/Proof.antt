@@ -14,12 +14,12 @@ use Rattle.layout.specs.Shape.{cumulus, shape}
 use Rattle.limits.proofs.Held.{held}
 use Rattle.laws.proofs.LimitLaws.{lowest-within, highest-within}
 use Rattle.rounding.specs.Reading.{step_of}
-use Rattle.door.specs.Door.{floats, stepAt}
+use Rattle.door.specs.Door.{floats, step_at}
 use Rattle.door.proofs.steps_of.Statement.{statement}
 use Rattle.door.proofs.steps_of.Tie as tie
 
 abbrev invariant-loop : tie.invariant-loop
-invariant-loop limits readings steps₀ i₀ steps i = (i ≤ cumulus.variables) × (length steps ≡ cumulus.variables) × (take i steps ≡ listed i (stepAt cumulus limits.numbers (floats readings)))
+invariant-loop limits readings steps₀ i₀ steps i = (i ≤ cumulus.variables) × (length steps ≡ cumulus.variables) × (take i steps ≡ listed i (step_at cumulus limits.numbers (floats readings)))
 
 abbrev decreases-loop : tie.decreases-loop
 decreases-loop limits readings steps₀ i₀ steps i = cumulus.variables - i
@@ -77,7 +77,7 @@ loop-again : tie.Need-loop-preserved invariant-loop decreases-loop
 loop-again c =
     let l = c.before.before.before.before.loop in
     let a = c.before.before.before.before.before.args in
-    let f = stepAt cumulus a.limits.numbers (floats a.t2) in (
+    let f = step_at cumulus a.limits.numbers (floats a.t2) in (
       omega (arith, c.before.before.before.loop-test.true),
       length-set l.steps l.i _ ∙ l.invariant.1,
       listed_more l.steps f l.i _ (omega (arith, l.invariant.1, c.before.before.before.loop-test.true)) l.invariant.2
@@ -88,7 +88,7 @@ returns : tie.Need-returns invariant-loop decreases-loop
 returns c =
     let l = c.before.loop in
     let a = c.before.before.args in
-    listed-all l.steps (stepAt cumulus a.limits.numbers (floats a.t2)) l.i cumulus.variables l.invariant.1 (omega (arith, l.invariant.0, c.loop-test.false)) l.invariant.2
+    listed-all l.steps (step_at cumulus a.limits.numbers (floats a.t2)) l.i cumulus.variables l.invariant.1 (omega (arith, l.invariant.0, c.loop-test.false)) l.invariant.2
 
 pub steps-of-spec : {M : Type 1} → statement M
 steps-of-spec =

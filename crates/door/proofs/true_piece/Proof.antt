@@ -2,9 +2,9 @@
 use mathlib.Core.Path.{◌≡◌, sym, ◌∙◌, ap}
 use mathlib.Core.Bool.{cond}
 use Rattle.layout.specs.Shape.{cumulus, shape}
-use Rattle.layout.specs.Limits.{fineCut}
+use Rattle.layout.specs.Limits.{fine_cut}
 use Rattle.limits.proofs.Held.{held}
-use Rattle.thousandths.specs.Thousandths.{atMostThousandths}
+use Rattle.thousandths.specs.Thousandths.{at_most_thousandths}
 use Rattle.door.proofs.true_piece.Statement.{statement}
 use Rattle.door.proofs.true_piece.Tie as tie
 
@@ -15,12 +15,12 @@ at-most-requires : tie.Need-at-most-requires
 at-most-requires c κs = c.before.requires.1
 
 -- what the comparison says
-test-is : (c : tie.After-at-most) → let a = c.before.before.args in c.at_most.result ≡ atMostThousandths a.alpha (fineCut cumulus a.limits.numbers)
+test-is : (c : tie.After-at-most) → let a = c.before.before.args in c.at_most.result ≡ at_most_thousandths a.alpha (fine_cut cumulus a.limits.numbers)
 test-is c =
     let f = c.before in
     let a = f.before.args in
     c.at_most.ensures
-    ∙ ap (atMostThousandths a.alpha) (held f.fine-cut.result f.fine-cut.type-inv (f.fine-cut.ensures ∙ ap (λ m. fineCut (shape m) a.limits.numbers) f.before.requires.0))
+    ∙ ap (at_most_thousandths a.alpha) (held f.fine-cut.result f.fine-cut.type-inv (f.fine-cut.ensures ∙ ap (λ m. fine_cut (shape m) a.limits.numbers) f.before.requires.0))
 
 returns : tie.Need-returns
 returns c = ap (λ b. cond b 0 1) (sym c.if1.true ∙ test-is c.before)

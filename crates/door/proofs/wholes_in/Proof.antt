@@ -9,12 +9,12 @@ use mir.Facts.{to_z-of_z}
 use Rattle.polynomials.specs.Sum.{listed}
 use Rattle.polynomials.proofs.Listed.{listed_more, listed-all}
 use Rattle.layout.specs.Shape.{cumulus}
-use Rattle.door.specs.Steps.{wholeIn, stepsOf}
+use Rattle.door.specs.Steps.{whole_in, steps_of}
 use Rattle.door.proofs.wholes_in.Statement.{statement}
 use Rattle.door.proofs.wholes_in.Tie as tie
 
 abbrev invariant-loop : tie.invariant-loop
-invariant-loop steps state₀ i₀ state i = (i ≤ cumulus.variables) × (length state ≡ cumulus.variables) × (take i state ≡ listed i (λ k. wholeIn (stepsOf steps k)))
+invariant-loop steps state₀ i₀ state i = (i ≤ cumulus.variables) × (length state ≡ cumulus.variables) × (take i state ≡ listed i (λ k. whole_in (steps_of steps k)))
 
 abbrev decreases-loop : tie.decreases-loop
 decreases-loop steps state₀ i₀ state i = cumulus.variables - i
@@ -50,7 +50,7 @@ loop-again c =
     let s = c.before.before.before.before.args.t1 in (
       omega (arith, c.before.before.loop-test.true),
       length-set l.state l.i _ ∙ l.invariant.1,
-      listed_more l.state (λ k. wholeIn (stepsOf s k)) l.i _ (omega (arith, l.invariant.1, c.before.before.loop-test.true)) l.invariant.2
+      listed_more l.state (λ k. whole_in (steps_of s k)) l.i _ (omega (arith, l.invariant.1, c.before.before.loop-test.true)) l.invariant.2
           (to_z-of_z (sfits_of {z = c.whole_in.result} c.whole_in.type-inv) ∙ c.whole_in.ensures),
     )
 
@@ -58,7 +58,7 @@ returns : tie.Need-returns invariant-loop decreases-loop
 returns c =
     let l = c.before.loop in
     let s = c.before.before.args.t1 in
-    listed-all l.state (λ k. wholeIn (stepsOf s k)) l.i cumulus.variables l.invariant.1 (omega (arith, l.invariant.0, c.loop-test.false)) l.invariant.2
+    listed-all l.state (λ k. whole_in (steps_of s k)) l.i cumulus.variables l.invariant.1 (omega (arith, l.invariant.0, c.loop-test.false)) l.invariant.2
 
 pub wholes-in-spec : {M : Type 1} → statement M
 wholes-in-spec =

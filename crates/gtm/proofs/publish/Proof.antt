@@ -2,7 +2,7 @@
 use borrow.Author.Rules.{rules}
 use Rattle.polynomials.specs.Order.{powers, below}
 use Rattle.polynomials.specs.Sum.{listed}
-use Rattle.layout.specs.Blocks.{laidOut}
+use Rattle.layout.specs.Blocks.{laid_out}
 use Rattle.gtm_page.specs.Published.{published}
 use Rattle.gtm.proofs.publish.Statement.{statement}
 use Rattle.gtm.proofs.publish.Tie as tie
@@ -17,7 +17,7 @@ same_length : tie.Need-same-length
 same_length c = search rules
 
 returns : tie.Need-returns
-unfolding published laidOut listed powers below
+unfolding published laid_out listed powers below
 returns c = (c.before.publish.ensures.0, c.before.publish.ensures.1)
 
 pub publish-spec : {M : Type 1} → statement M

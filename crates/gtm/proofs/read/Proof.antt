@@ -8,17 +8,17 @@ use lib.IntN.{ℤ, pos}
 use lib.ListN.{length, get_or}
 use mir.Facts.{to_z-of_z}
 use Rattle.layout.specs.Shape.{gtm}
-use Rattle.layout.specs.Reading.{readings, readNumber, readOutput}
+use Rattle.layout.specs.Reading.{readings, read_number, read_output}
 use Rattle.gtm.proofs.read.Statement.{statement}
 use Rattle.gtm.proofs.read.Tie as tie
 
-abbrev inRoom : ℤ → ℤ → List ℤ
-inRoom a e = a ∷ e ∷ pos 0 ∷ pos 0 ∷ pos 0 ∷ []
+abbrev in_room : ℤ → ℤ → List ℤ
+in_room a e = a ∷ e ∷ pos 0 ∷ pos 0 ∷ pos 0 ∷ []
 
-readings-are : (a e : ℤ) → readings (inRoom a e) ≡ readings (a ∷ e ∷ [])
+readings-are : (a e : ℤ) → readings (in_room a e) ≡ readings (a ∷ e ∷ [])
 readings-are a e = fun_ext at
   where
-    at : (i : ℕ) → readings (inRoom a e) i ≡ readings (a ∷ e ∷ []) i
+    at : (i : ℕ) → readings (in_room a e) i ≡ readings (a ∷ e ∷ []) i
     at zero = refl
     at (suc zero) = refl
     at (suc (suc zero)) = refl
@@ -27,10 +27,10 @@ readings-are a e = fun_ext at
     at (suc (suc (suc (suc (suc i))))) = refl
 
 -- of a state of two, as the code hands them on
-readings-of : (s : List ℤ) {a e : ℤ} → 2 ≡ length s → a ≡ get_or s 0 (pos 0) → e ≡ get_or s 1 (pos 0) → readings (inRoom a e) ≡ readings s
+readings-of : (s : List ℤ) {a e : ℤ} → 2 ≡ length s → a ≡ get_or s 0 (pos 0) → e ≡ get_or s 1 (pos 0) → readings (in_room a e) ≡ readings s
 readings-of [] h p q = absurd (omega arith)
 readings-of (x ∷ []) h p q = absurd (omega arith)
-readings-of (x ∷ y ∷ []) h p q = ap₂ (λ a e. readings (inRoom a e)) p q ∙ readings-are x y
+readings-of (x ∷ y ∷ []) h p q = ap₂ (λ a e. readings (in_room a e)) p q ∙ readings-are x y
 readings-of (x ∷ y ∷ z ∷ s) h p q = absurd (omega arith)
 
 refusal-into-requires : tie.Need-refusal-into-requires
@@ -59,7 +59,7 @@ returns c =
     let a = d.before.before in
     let t = a.args.table.now in
     let x = readings-of a.args.t2 (two a) (to_z-of_z (sfits_of {z = get_or a.args.t2 0 (pos 0)} d.alpha.given)) (to_z-of_z (sfits_of {z = get_or a.args.t2 1 (pos 0)} e.eta.given)) in
-    (r.0 ∙ ap (λ y. readNumber gtm t y a.args.out.now) x, r.1 ∙ ap (λ y. readOutput gtm t y a.args.out.now) x)
+    (r.0 ∙ ap (λ y. read_number gtm t y a.args.out.now) x, r.1 ∙ ap (λ y. read_output gtm t y a.args.out.now) x)
 
 pub read_spec : {M : Type 1} → statement M
 read_spec =

@@ -1,6 +1,6 @@
 -- `lending::signed_room` meets its contract: the loop counts up to the room with both its sides. Assumes nothing.
 use Prim.Native.Nat.{◌+◌, ◌≤◌, ◌-◌}
-use Rattle.spaces.specs.Sizes.{spaceRoom}
+use Rattle.spaces.specs.Sizes.{space_room}
 use borrow.Author.Rules.{rules}
 use Rattle.lending.proofs.signed_room.Statement.{statement}
 use Rattle.lending.proofs.signed_room.Tie as tie
@@ -9,7 +9,7 @@ abbrev invariant-loop : tie.invariant-loop
 invariant-loop numbers room₀ k₀ room k = (0 ≤ k)
 
 abbrev decreases-loop : tie.decreases-loop
-decreases-loop numbers room₀ k₀ room k = 8 + spaceRoom + 8 - k
+decreases-loop numbers room₀ k₀ room k = 8 + space_room + 8 - k
 
 fresh-requires : tie.Need-fresh-requires invariant-loop decreases-loop
 fresh-requires c κs = search rules

@@ -1,15 +1,15 @@
 -- `lending::store` meets its contract: the loop counts up to the room of a space. Assumes nothing.
 use Prim.Native.Nat.{◌≤◌, ◌-◌}
-use Rattle.spaces.specs.Sizes.{spaceRoom}
+use Rattle.spaces.specs.Sizes.{space_room}
 use borrow.Author.Rules.{rules}
 use Rattle.lending.proofs.store.Statement.{statement}
 use Rattle.lending.proofs.store.Tie as tie
 
 abbrev invariant-loop : tie.invariant-loop
-invariant-loop lent into spaces₀ start k₀ spaces k = (k ≤ spaceRoom)
+invariant-loop lent into spaces₀ start k₀ spaces k = (k ≤ space_room)
 
 abbrev decreases-loop : tie.decreases-loop
-decreases-loop lent into spaces₀ start k₀ spaces k = spaceRoom - k
+decreases-loop lent into spaces₀ start k₀ spaces k = space_room - k
 
 start-of-requires : tie.Need-start-of-requires invariant-loop decreases-loop
 start-of-requires c κs = search rules

@@ -8,15 +8,15 @@ use lib.IntN.{ℤ, ◌+ℤ◌}
 use mir.Syntax.{w64}
 use mir.Val.{SFits, to_z, of_z}
 use mir.Facts.{to_z-of_z}
-use Rattle.whole.proofs.Machine.{natAbs-sfits, op-bits, op-back}
+use Rattle.whole.proofs.Machine.{nat_abs-sfits, op-bits, op-back}
 use Rattle.polynomials.specs.Numbers.{ints}
 use Rattle.polynomials.specs.Group.{number}
 use Rattle.polynomials.specs.Downward.{downward}
 use Rattle.layout.specs.Shape.{cumulus}
 use Rattle.layout.specs.Reading.{readings}
-use Rattle.cumulus_page.specs.Model.{coefficientAt}
+use Rattle.cumulus_page.specs.Model.{coefficient_at}
 use Rattle.microradians.specs.Fixed.{◌⊛◌}
-use Rattle.microradians.specs.Groups.{groupCount, fineGroup}
+use Rattle.microradians.specs.Groups.{group_count, fine_group}
 use Rattle.microradians.specs.Ready.{Placed, Near}
 use Rattle.microradians.proofs.Held.{value_at, Found, pitch-found, xi-found, zeta-found, answer-is, sides-fit, all_fit}
 use Rattle.microradians.proofs.coefficient_at.Statement.{statement}
@@ -24,20 +24,20 @@ use Rattle.microradians.proofs.coefficient_at.Tie as tie
 
 -- ════ a group, as the code reads it
 bits : (z : ℤ) → Near z → to_z w64 (of_z w64 z) ≡ z
-bits z h = to_z-of_z (natAbs-sfits z (omega arith))
+bits z h = to_z-of_z (nat_abs-sfits z (omega arith))
 
 held-near : (z : ℤ) → Near z → Near (to_z w64 (of_z w64 z))
 held-near z h = rw (bits z h) h
 
-module _ {b i degree u v : ℕ} (f : Found b i degree u v) (l : List ℤ) (e : l ≡ fineGroup (groupCount * b + i)) where
+module _ {b i degree u v : ℕ} (f : Found b i degree u v) (l : List ℤ) (e : l ≡ fine_group (group_count * b + i)) where
   lent : Placed l degree
   lent = subst (λ m. Placed m degree) (sym e) f.placed
 
   back : (x : ℕ → ℤ) (z : ℤ) → Near (x u) → Near (x v) → SFits w64 z
-      → z ≡ downward ints ◌⊛◌ degree (number ints l) (to_z w64 (of_z w64 (x u))) (to_z w64 (of_z w64 (x v))) → to_z w64 (of_z w64 z) ≡ value_at (coefficientAt b) x i
+      → z ≡ downward ints ◌⊛◌ degree (number ints l) (to_z w64 (of_z w64 (x u))) (to_z w64 (of_z w64 (x v))) → to_z w64 (of_z w64 z) ≡ value_at (coefficient_at b) x i
   back x z hu hv g h =
       to_z-of_z g ∙ h ∙ ap (λ m. downward ints ◌⊛◌ degree (number ints m) (to_z w64 (of_z w64 (x u))) (to_z w64 (of_z w64 (x v)))) e
-      ∙ ap₂ (downward ints ◌⊛◌ degree (number ints (fineGroup (groupCount * b + i)))) (bits (x u) hu) (bits (x v) hv) ∙ f.value x
+      ∙ ap₂ (downward ints ◌⊛◌ degree (number ints (fine_group (group_count * b + i)))) (bits (x u) hu) (bits (x v) hv) ∙ f.value x
 
 module _ (c : tie.Start) where
   abbrev x : ℕ → ℤ
@@ -76,7 +76,7 @@ module _ (c : tie.After-group-at3) where
   start = found.before.before.before
 
   abbrev value : ℕ → ℤ
-  value = value_at (coefficientAt (b start)) (x start)
+  value = value_at (coefficient_at (b start)) (x start)
 
   pitch-is : to_z w64 (of_z w64 after-pitch.group_at.result) ≡ value (n start)
   pitch-is =
@@ -174,7 +174,7 @@ add-result-2 c = op-bits ◌+ℤ◌ (pitch-is c) (op-back ◌+ℤ◌ (xi-is c) (
 returns : tie.Need-returns
 returns c =
     let a = start c in
-    op-back ◌+ℤ◌ (pitch-is c) (op-back ◌+ℤ◌ (xi-is c) (zeta-is c) (sides c)) (all c) ∙ answer-is (coefficientAt (b a)) (x a) (n a) a.pre.1.0
+    op-back ◌+ℤ◌ (pitch-is c) (op-back ◌+ℤ◌ (xi-is c) (zeta-is c) (sides c)) (all c) ∙ answer-is (coefficient_at (b a)) (x a) (n a) a.pre.1.0
 
 pub coefficient-at-spec : {M : Type 1} → statement M
 coefficient-at-spec =

@@ -9,10 +9,10 @@ use lib.IntN.{ℤ, nat_abs, ◌+ℤ◌}
 use mir.Syntax.{w64}
 use mir.Val.{SFits, to_z, of_z}
 use mir.Facts.{to_z-of_z}
-use Rattle.whole.proofs.Machine.{natAbs-sfits, op-bits, op-back}
+use Rattle.whole.proofs.Machine.{nat_abs-sfits, op-bits, op-back}
 use Rattle.polynomials.specs.Numbers.{ints}
 use Rattle.polynomials.specs.Group.{number}
-use Rattle.polynomials.specs.Downward.{down, rowDownward, downward}
+use Rattle.polynomials.specs.Downward.{down, row_downward, downward}
 use Rattle.polynomials.proofs.Downward.{down-start, down-more}
 use Rattle.microradians.specs.Fixed.{◌⊛◌}
 use Rattle.microradians.specs.Ready.{most, Near}
@@ -22,7 +22,7 @@ use Rattle.microradians.proofs.group_at.Tie as tie
 
 abbrev invariant-loop : tie.invariant-loop
 invariant-loop group degree x y q₀ sum₀ q sum =
-    (q ≤ degree) × (to_z w64 sum ≡ down ints ◌⊛◌ (rowDownward ints ◌⊛◌ degree (number ints group) (to_z w64 x)) (to_z w64 y) (degree - q) q)
+    (q ≤ degree) × (to_z w64 sum ≡ down ints ◌⊛◌ (row_downward ints ◌⊛◌ degree (number ints group) (to_z w64 x)) (to_z w64 y) (degree - q) q)
 
 abbrev decreases-loop : tie.decreases-loop
 decreases-loop group degree x y q₀ sum₀ q sum = q
@@ -46,7 +46,7 @@ module _ (c : tie.Start invariant-loop decreases-loop) where
   number_of = number ints c.args.group.now
 
   abbrev row : ℕ → ℤ
-  row = rowDownward ints ◌⊛◌ c.args.degree number_of x
+  row = row_downward ints ◌⊛◌ c.args.degree number_of x
 
   abbrev rows : ℕ → ℤ
   rows q = down ints ◌⊛◌ row y (c.args.degree - q) q
@@ -55,7 +55,7 @@ module _ (c : tie.Start invariant-loop decreases-loop) where
   small q = group-size c.requires.0 x y near-x near-y (c.args.degree - q) q (omega arith)
 
   fits : (q : ℕ) → q < c.args.degree → SFits w64 (rows (q + 1) ⊛ y +ℤ row q)
-  fits q h = subst (SFits w64) (down-more ints ◌⊛◌ row y c.args.degree q h) (natAbs-sfits _ (omega (arith, small q)))
+  fits q h = subst (SFits w64) (down-more ints ◌⊛◌ row y c.args.degree q h) (nat_abs-sfits _ (omega (arith, small q)))
 
 -- ════ at a turn, which takes the power one below
 module _ (c : tie.In-loop invariant-loop decreases-loop) where

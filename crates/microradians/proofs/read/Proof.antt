@@ -13,7 +13,7 @@ use Rattle.layout.specs.Limits.{cut}
 use Rattle.layout.specs.Refusals.{done}
 use Rattle.layout.specs.Reading.{readings}
 use Rattle.laws.proofs.LimitLaws.{counted-half, counted-piece}
-use Rattle.microradians.specs.Answer.{fineLimits, fineNumber}
+use Rattle.microradians.specs.Answer.{fine_limits, fine_number}
 use Rattle.microradians.proofs.Answers.{refused, wrong-room, room-number, all_near, piece-given}
 use Rattle.microradians.proofs.read.Statement.{statement}
 use Rattle.microradians.proofs.read.Tie as tie
@@ -25,10 +25,10 @@ module _ (c : tie.Start) where
   abbrev out : List ℤ
   out = c.args.out.now
 
-number_is : (c : tie.After-outside) → let d = c.before.before.before in fineNumber (x d) (out d) ≡ c.outside.result
+number_is : (c : tie.After-outside) → let d = c.before.before.before in fine_number (x d) (out d) ≡ c.outside.result
 number_is c = room-number _ _ c.before.before.if1.false ∙ sym c.outside.ensures
 
-nothing : (c : tie.Else2) → let d = c.before.before.before.before in fineNumber (x d) (out d) ≡ done
+nothing : (c : tie.Else2) → let d = c.before.before.before.before in fine_number (x d) (out d) ≡ done
 nothing c = number_is c.before ∙ c.if2.false
 
 -- all readings are inside: the piece
@@ -40,10 +40,10 @@ module _ (c : tie.After-piece) where
   start = inside-all.before.before.before.before
 
   abbrev low-is : Bool
-  low-is = le_z (x start 0) (cut cumulus fineLimits)
+  low-is = le_z (x start 0) (cut cumulus fine_limits)
 
   counted : c.piece.result ≡ cond low-is 0 1
-  counted = c.piece.ensures ∙ ap (λ z. cond (le_z z (cut cumulus fineLimits)) 0 1) (to_z-of_z (sfits_of {z = x start 0} c.before.piece-arg.given))
+  counted = c.piece.ensures ∙ ap (λ z. cond (le_z z (cut cumulus fine_limits)) 0 1) (to_z-of_z (sfits_of {z = x start 0} c.before.piece-arg.given))
 
 returns : tie.Need-returns
 returns c = wrong-room (x c.before) (out c.before) c.if1.true

@@ -9,10 +9,10 @@ use lib.IntN.{ℤ, nat_abs, ◌+ℤ◌}
 use mir.Syntax.{w64}
 use mir.Val.{SFits, to_z, of_z}
 use mir.Facts.{to_z-of_z}
-use Rattle.whole.proofs.Machine.{natAbs-sfits, op-bits, op-back}
+use Rattle.whole.proofs.Machine.{nat_abs-sfits, op-bits, op-back}
 use Rattle.polynomials.specs.Numbers.{ints}
 use Rattle.polynomials.specs.Group.{number}
-use Rattle.polynomials.specs.Limits.{highestDegree}
+use Rattle.polynomials.specs.Limits.{highest_degree}
 use Rattle.polynomials.specs.Downward.{down}
 use Rattle.polynomials.proofs.Downward.{down-start, down-more}
 use Rattle.microradians.specs.Fixed.{◌⊛◌}
@@ -49,14 +49,14 @@ module _ (c : tie.Start invariant-loop decreases-loop) where
   abbrev row : ℕ → ℤ
   row p = down ints ◌⊛◌ number_of x (last - p) p
 
-  at : (p : ℕ) → p ≤ last → p + c.args.q ≤ highestDegree
+  at : (p : ℕ) → p ≤ last → p + c.args.q ≤ highest_degree
   at p h = omega (arith, c.requires.0.low)
 
   small : (p : ℕ) → nat_abs (row p) ≤ most
   small p = row-size c.requires.0 x x near near c.args.q (last - p) p (omega arith)
 
   fits : (p : ℕ) → p < last → SFits w64 (row (p + 1) ⊛ x +ℤ number_of p)
-  fits p h = subst (SFits w64) (down-more ints ◌⊛◌ number_of x last p h) (natAbs-sfits _ (omega (arith, small p)))
+  fits p h = subst (SFits w64) (down-more ints ◌⊛◌ number_of x last p h) (nat_abs-sfits _ (omega (arith, small p)))
 
 -- ════ at a turn, which takes the power one below
 module _ (c : tie.In-loop invariant-loop decreases-loop) where

@@ -9,9 +9,9 @@ use lib.Signed.{◌<ℤ◌}
 use mir.Syntax.{w64}
 use mir.Val.{SFits, to_z, of_z}
 use mir.Facts.{to_z-of_z}
-use Rattle.whole.specs.Nearest.{nearestAway}
-use Rattle.whole.proofs.Magnitudes.{natAbs-*}
-use Rattle.whole.proofs.Machine.{natAbs-sfits, mul-bits, mul-back}
+use Rattle.whole.specs.Nearest.{nearest_away}
+use Rattle.whole.proofs.Magnitudes.{nat_abs-*}
+use Rattle.whole.proofs.Machine.{nat_abs-sfits, mul-bits, mul-back}
 use Rattle.whole.proofs.Order.{lt_in}
 use Rattle.cumulus_page.specs.Model.{microradians}
 use Rattle.microradians.specs.Ready.{most}
@@ -23,10 +23,10 @@ module _ (c : tie.Start) where
   z = c.args.a *ℤ c.args.r
 
   small : nat_abs z ≤ most * microradians.radian
-  small = N.le_trans (N.le_of_eq (natAbs-* c.args.a c.args.r)) (N.mul-le-mul c.requires.0 c.requires.1)
+  small = N.le_trans (N.le_of_eq (nat_abs-* c.args.a c.args.r)) (N.mul-le-mul c.requires.0 c.requires.1)
 
   fits : SFits w64 z
-  fits = natAbs-sfits z (omega (arith, small))
+  fits = nat_abs-sfits z (omega (arith, small))
 
   product_is : to_z w64 (of_z w64 (to_z w64 (of_z w64 c.args.a) *ℤ to_z w64 (of_z w64 c.args.r))) ≡ z
   product_is = mul-back c.ranges.a c.ranges.r fits
@@ -40,7 +40,7 @@ nearest-away-requires c κs = (lt_in (omega arith), omega (arith, small c, ap na
 returns : tie.Need-returns
 returns c =
     let f = c.nearest-away in
-    to_z-of_z (sfits_of {z = f.result} f.type-inv) ∙ f.ensures ∙ ap (nearestAway microradians.radian) (product_is c.before)
+    to_z-of_z (sfits_of {z = f.result} f.type-inv) ∙ f.ensures ∙ ap (nearest_away microradians.radian) (product_is c.before)
 
 pub times-spec : {M : Type 1} → statement M
 times-spec = tie.close (tie.spec mul-product nearest-away-requires returns)

@@ -12,16 +12,16 @@ use Rattle.polynomials.proofs.Listed.{listed_more, listed-all}
 use Rattle.layout.specs.Shape.{cumulus}
 use Rattle.layout.specs.Blocks.{piece as piece_of}
 use Rattle.layout.specs.Reading.{readings}
-use Rattle.cumulus_page.specs.Model.{coefficientAt}
+use Rattle.cumulus_page.specs.Model.{coefficient_at}
 use Rattle.microradians.specs.Answer.{answer_in}
 use Rattle.microradians.proofs.write_answers.Statement.{statement}
 use Rattle.microradians.proofs.write_answers.Tie as tie
 
-answerAt : ℕ → List ℤ → ℕ → ℤ
-answerAt n x b = answer_in (piece_of n) (coefficientAt b) (readings x)
+answer_at : ℕ → List ℤ → ℕ → ℤ
+answer_at n x b = answer_in (piece_of n) (coefficient_at b) (readings x)
 
 abbrev invariant-loop : tie.invariant-loop
-invariant-loop piece state out₀ block₀ out block = (block ≤ cumulus.blocks) × (length out ≡ cumulus.blocks) × (take block out ≡ listed block (answerAt piece state))
+invariant-loop piece state out₀ block₀ out block = (block ≤ cumulus.blocks) × (length out ≡ cumulus.blocks) × (take block out ≡ listed block (answer_at piece state))
 
 abbrev decreases-loop : tie.decreases-loop
 decreases-loop piece state out₀ block₀ out block = cumulus.blocks - block
@@ -46,13 +46,13 @@ loop-less : tie.Need-loop-smaller invariant-loop decreases-loop
 loop-less c = search rules
 
 loop-again : tie.Need-loop-preserved invariant-loop decreases-loop
-unfolding answerAt
+unfolding answer_at
 loop-again c =
     let l = c.before.before.loop in
     let a = c.before.before.before in (
       omega (arith, c.before.loop-test.true),
       length-set l.out l.block _ ∙ l.invariant.1,
-      listed_more l.out (answerAt a.args.piece a.args.state) l.block _ (omega (arith, l.invariant.1, c.before.loop-test.true)) l.invariant.2
+      listed_more l.out (answer_at a.args.piece a.args.state) l.block _ (omega (arith, l.invariant.1, c.before.loop-test.true)) l.invariant.2
           (to_z-of_z (sfits_of {z = c.coefficient-at.result} c.coefficient-at.type-inv) ∙ c.coefficient-at.ensures),
     )
 
@@ -60,11 +60,11 @@ same_length : tie.Need-same-length invariant-loop decreases-loop
 same_length c = c.before.loop.invariant.1 ∙ sym c.before.before.requires.1.1
 
 returns : tie.Need-returns invariant-loop decreases-loop
-unfolding answerAt
+unfolding answer_at
 returns c =
     let l = c.before.loop in
     let a = c.before.before in
-    listed-all l.out (answerAt a.args.piece a.args.state) l.block cumulus.blocks l.invariant.1 (omega (arith, l.invariant.0, c.loop-test.false)) l.invariant.2
+    listed-all l.out (answer_at a.args.piece a.args.state) l.block cumulus.blocks l.invariant.1 (omega (arith, l.invariant.0, c.loop-test.false)) l.invariant.2
 
 pub write-answers-spec : {M : Type 1} → statement M
 write-answers-spec =

@@ -6,20 +6,20 @@ use borrow.Author.Rules.{rules}
 use lib.ListN.{length, take, length-set}
 use Rattle.polynomials.specs.Sum.{listed}
 use Rattle.polynomials.proofs.Listed.{listed_more, listed-all}
-use Rattle.layout.specs.Numbers.{reachesRoom}
-use Rattle.moving.specs.Ready.{longerAt}
+use Rattle.layout.specs.Numbers.{reaches_room}
+use Rattle.moving.specs.Ready.{longer_at}
 use Rattle.moving.proofs.longer.Statement.{statement}
 use Rattle.moving.proofs.longer.Tie as tie
 
 abbrev invariant-loop : tie.invariant-loop
 invariant-loop reaches variable more longer₀ k₀ longer k =
-    (k ≤ reachesRoom) × (length longer ≡ reachesRoom) × (take k longer ≡ listed k (longerAt reaches variable more))
+    (k ≤ reaches_room) × (length longer ≡ reaches_room) × (take k longer ≡ listed k (longer_at reaches variable more))
 
 abbrev decreases-loop : tie.decreases-loop
-decreases-loop reaches variable more longer₀ k₀ longer k = reachesRoom - k
+decreases-loop reaches variable more longer₀ k₀ longer k = reaches_room - k
 
 abbrev target : (c : tie.Start invariant-loop decreases-loop) → ℕ → ℕ
-target c = longerAt c.args.reaches c.args.variable c.args.more
+target c = longer_at c.args.reaches c.args.variable c.args.more
 
 loop-holds : tie.Need-loop-init invariant-loop decreases-loop
 unfolding listed
@@ -51,7 +51,7 @@ loop-again c =
 returns : tie.Need-returns invariant-loop decreases-loop
 returns c =
     let l = c.before.loop in
-    listed-all l.longer (target c.before.before) l.k reachesRoom l.invariant.1 (omega (arith, l.invariant.0, c.loop-test.false)) l.invariant.2
+    listed-all l.longer (target c.before.before) l.k reaches_room l.invariant.1 (omega (arith, l.invariant.0, c.loop-test.false)) l.invariant.2
 
 pub longer-spec : {M : Type 1} → statement M
 longer-spec =

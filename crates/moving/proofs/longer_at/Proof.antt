@@ -6,7 +6,7 @@ use borrow.Author.Rules.{rules}
 use borrow.Author.Tests.{eq-eqb, ne_eqb}
 use lib.Dec.{eqb}
 use lib.ListN.{get_or}
-use Rattle.moving.specs.Ready.{longerAt}
+use Rattle.moving.specs.Ready.{longer_at}
 use Rattle.moving.proofs.longer_at.Statement.{statement}
 use Rattle.moving.proofs.longer_at.Tie as tie
 
@@ -14,7 +14,7 @@ module _ (a : tie.Start) where
   abbrev reach : ℕ
   reach = get_or a.args.t1 a.args.place 0
 
-  asked : (b : Bool) → eqb (a.args.place - 1) a.args.variable ≡ b → cond b (reach + a.args.more) reach ≡ longerAt a.args.t1 a.args.variable a.args.more a.args.place
+  asked : (b : Bool) → eqb (a.args.place - 1) a.args.variable ≡ b → cond b (reach + a.args.more) reach ≡ longer_at a.args.t1 a.args.variable a.args.more a.args.place
   asked b e = ap (λ (b : Bool). cond b (reach + a.args.more) reach) (sym e)
 
 mul-reach : tie.Need-overflow-mul-reach

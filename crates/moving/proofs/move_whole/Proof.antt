@@ -12,16 +12,16 @@ use mir.Val.{to_z, of_z}
 use mir.Facts.{to_z-of_z}
 use Rattle.layout.specs.declared.Model.{Model}
 use Rattle.layout.specs.Shape.{Shape, shape}
-use Rattle.layout.specs.Limits.{longestShift, good}
-use Rattle.layout.specs.Refusals.{first, ◌when◌, done, limitPast}
-use Rattle.layout.specs.Moving.{movedTable, moveNumber, moveOutput}
+use Rattle.layout.specs.Limits.{longest_shift, good}
+use Rattle.layout.specs.Refusals.{first, ◌when◌, done, limit_past}
+use Rattle.layout.specs.Moving.{moved_table, move_number, move_output}
 use Rattle.layout.specs.Accepted.{MoveAccepted}
 use Rattle.layout.proofs.Fine.{well-formed, some-table}
 use Rattle.laws.proofs.Refused.{first-hit, move-done, move-kept, move-given}
 use Rattle.tables.specs.Ready.{unsound}
 use Rattle.tables.proofs.Taken.{good-taken}
 use Rattle.tables.proofs.Steps.{positive}
-use Rattle.moving.specs.Ready.{HoldsMoved, Movable, moveOwn}
+use Rattle.moving.specs.Ready.{HoldsMoved, Movable, move_own}
 use Rattle.moving.proofs.Steps.{moved-held, move-bad, move-refused, move-allowed, move-far, some-refusal}
 use Rattle.moving.proofs.move_whole.Statement.{statement}
 use Rattle.moving.proofs.move_whole.Tie as tie
@@ -46,17 +46,17 @@ module _ (a : tie.Start) where
   out = a.args.out.now
 
   abbrev number : ℕ
-  number = moveNumber S t i s out
+  number = move_number S t i s out
 
   shift_is : to_z w64 (of_z w64 s) ≡ s
   shift_is = to_z-of_z a.fits.shift
 
   -- a refusal leaves the output as it was
-  refused : (n : ℕ) → number ≡ n → 0 < n → (n ≡ number) × (out ≡ moveOutput S t i s out)
+  refused : (n : ℕ) → number ≡ n → 0 < n → (n ≡ number) × (out ≡ move_output S t i s out)
   refused n e h = (sym e, sym (move-kept S t i s out e h))
 
   -- so does one of the move's own, or what the table is refused for before it
-  own-refused : (r n : ℕ) → n ≡ first (moveOwn S t i s) → 0 < n → r ≡ first (unsound S t ++ (n when true) ∷ []) → (r ≡ number) × (out ≡ moveOutput S t i s out)
+  own-refused : (r n : ℕ) → n ≡ first (move_own S t i s) → 0 < n → r ≡ first (unsound S t ++ (n when true) ∷ []) → (r ≡ number) × (out ≡ move_output S t i s out)
   own-refused r n e h f =
       refused r (move-refused S t i s out a.pre.0 a.pre.1.0 a.pre.1.1 n e ∙ sym f) (subst (λ k. 0 < k) (sym f) (some-refusal S t n h))
 
@@ -87,8 +87,8 @@ module _ (c : tie.After-moved) where
       let d = known.before.before in
       moved-held (m origin) (t origin) (i origin) (s origin) d.of.result c.moved.result _ d.of.ensures (shift_is origin) c.moved.ensures
 
-refusal_is : (c : tie.After-refusal) → let a = origin c.before in c.refusal.result ≡ first (moveOwn (S a) (t a) (i a) (s a))
-refusal_is c = let a = origin c.before in c.refusal.ensures ∙ ap (λ z. first (moveOwn (S a) (t a) (i a) z)) (shift_is a)
+refusal_is : (c : tie.After-refusal) → let a = origin c.before in c.refusal.result ≡ first (move_own (S a) (t a) (i a) (s a))
+refusal_is c = let a = origin c.before in c.refusal.ensures ∙ ap (λ z. first (move_own (S a) (t a) (i a) z)) (shift_is a)
 
 -- ---- a move that is not refused
 module _ (c : tie.Else3) where
@@ -126,8 +126,8 @@ returns-2 : tie.Need-returns-2
 returns-2 c =
     let d = c.before.before in
     let a = start d.before in
-    own-refused a c.unless-unsound.result limitPast
-    (sym (first-hit limitPast _ (move-far (m a) (t a) (i a) (s a) a.pre.1.1 (limits-good d.before) (subst (λ n. longestShift < n) (size_is d) c.before.if2.true)))) (omega arith) c.unless-unsound.ensures
+    own-refused a c.unless-unsound.result limit_past
+    (sym (first-hit limit_past _ (move-far (m a) (t a) (i a) (s a) a.pre.1.1 (limits-good d.before) (subst (λ n. longest_shift < n) (size_is d) c.before.if2.true)))) (omega arith) c.unless-unsound.ensures
 
 moved-requires : tie.Need-moved-requires
 moved-requires c κs =
@@ -165,7 +165,7 @@ returns-4 c =
     let e = c.before.before.before in
     let a = from e in (
       sym (nothing e),
-      c.before.write-moved.ensures ∙ ap (λ z. movedTable (S a) (i a) z (t a)) (shift_is a) ∙ sym (move-given (S a) (t a) (i a) (s a) (out a) (nothing e)),
+      c.before.write-moved.ensures ∙ ap (λ z. moved_table (S a) (i a) z (t a)) (shift_is a) ∙ sym (move-given (S a) (t a) (i a) (s a) (out a) (nothing e)),
     )
 
 pub move-whole-spec : {M : Type 1} → statement M

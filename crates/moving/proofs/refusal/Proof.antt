@@ -10,17 +10,17 @@ use mir.Facts.{to_z-of_z}
 use Rattle.polynomials.specs.Sum.{listed}
 use Rattle.layout.specs.declared.Model.{Model}
 use Rattle.layout.specs.Shape.{Shape, shape}
-use Rattle.layout.specs.Numbers.{reachesRoom}
-use Rattle.layout.specs.Limits.{allInRange}
-use Rattle.layout.specs.Sound.{reach, withinCap}
-use Rattle.layout.specs.Reaches.{listedReaches, reachesOf}
-use Rattle.layout.specs.Moving.{movedLimits, moveLight}
-use Rattle.layout.specs.Refusals.{limitPast, moveTooHeavy}
+use Rattle.layout.specs.Numbers.{reaches_room}
+use Rattle.layout.specs.Limits.{all_in_range}
+use Rattle.layout.specs.Sound.{reach, within_cap}
+use Rattle.layout.specs.Reaches.{listed_reaches, reaches_of}
+use Rattle.layout.specs.Moving.{moved_limits, move_light}
+use Rattle.layout.specs.Refusals.{limit_past, move_too_heavy}
 use Rattle.laws.proofs.Reaches.{listed-one, listed-longer}
 use Rattle.laws.proofs.Refused.{first-skip, first-hit}
 use Rattle.tables.proofs.Taken.{first-nothing}
-use Rattle.moving.specs.Ready.{longerAt, Lengthened}
-use Rattle.moving.proofs.Steps.{movedRoom, moved-good, moved-range, moved-reaches, longerReach, lengthened, move-one, move-light}
+use Rattle.moving.specs.Ready.{longer_at, Lengthened}
+use Rattle.moving.proofs.Steps.{moved_room, moved-good, moved-range, moved-reaches, longer_reach, lengthened, move-one, move-light}
 use Rattle.moving.proofs.refusal.Statement.{statement}
 use Rattle.moving.proofs.refusal.Tie as tie
 
@@ -42,12 +42,12 @@ module _ (c : tie.Start) where
   s = c.args.shift
 
   abbrev limits : List ℤ
-  limits = movedLimits S i s t
+  limits = moved_limits S i s t
 
   abbrev room : List ℤ
-  room = movedRoom m t i s
+  room = moved_room m t i s
 
-good-is : (c : tie.After-good2) → let o = c.before in c.good2.result ≡ allInRange (S o) (limits o)
+good-is : (c : tie.After-good2) → let o = c.before in c.good2.result ≡ all_in_range (S o) (limits o)
 good-is c = let o = c.before in c.good2.ensures ∙ moved-good (m o) (t o) (i o) (s o) o.args.moved o.requires.moved o.requires.limits
 
 -- the moved limits are in range
@@ -55,11 +55,11 @@ module _ (c : tie.Else1) where
   abbrev from : tie.Start
   from = c.before.before
 
-  limits-in-range : allInRange (S from) (limits from) ≡ true
+  limits-in-range : all_in_range (S from) (limits from) ≡ true
   limits-in-range = sym (good-is c.before) ∙ not-false _ c.if1.false
 
 -- the reaches, as they come back
-reaches-are : (c : tie.After-reaches) → let o = from c.before in c.reaches.result ≡ listedReaches (reach (S o) (room o))
+reaches-are : (c : tie.After-reaches) → let o = from c.before in c.reaches.result ≡ listed_reaches (reach (S o) (room o))
 reaches-are c = let o = from c.before in c.reaches.ensures ∙ moved-reaches (m o) (t o) (i o) (s o) o.args.moved o.pre.moved
 
 -- the size of the shift
@@ -74,21 +74,21 @@ module _ (c : tie.After-longer) where
   abbrev origin : tie.Start
   origin = from inside
 
-  longer-is : c.longer.result ≡ listedReaches (longerReach (m origin) (t origin) (i origin) (s origin))
+  longer-is : c.longer.result ≡ listed_reaches (longer_reach (m origin) (t origin) (i origin) (s origin))
   longer-is =
-      c.longer.ensures ∙ ap₂ (λ l n. listed reachesRoom (longerAt l (i origin) n)) (reaches-are c.before.before) (size_is c.before)
+      c.longer.ensures ∙ ap₂ (λ l n. listed reaches_room (longer_at l (i origin) n)) (reaches-are c.before.before) (size_is c.before)
       ∙ listed-longer (reach (S origin) (room origin)) (i origin) (nat_abs (s origin))
 
-light-is : (c : tie.After-within-cap) → let o = origin c.before in c.within_cap.result ≡ moveLight (S o) (i o) (s o) (t o)
+light-is : (c : tie.After-within-cap) → let o = origin c.before in c.within_cap.result ≡ move_light (S o) (i o) (s o) (t o)
 light-is c =
     let o = origin c.before in
-    c.within_cap.ensures ∙ ap (λ l. withinCap (S o) (t o) (reachesOf l)) (longer-is c.before) ∙ move-light (m o) (t o) (i o) (s o)
+    c.within_cap.ensures ∙ ap (λ l. within_cap (S o) (t o) (reaches_of l)) (longer-is c.before) ∙ move-light (m o) (t o) (i o) (s o)
 
 good-requires : tie.Need-good-requires
 good-requires c κs = tt
 
 returns : tie.Need-returns
-returns c = sym (first-hit limitPast _ (sym (good-is c.before) ∙ not-true _ c.if1.true))
+returns c = sym (first-hit limit_past _ (sym (good-is c.before) ∙ not-true _ c.if1.true))
 
 reaches-requires : tie.Need-reaches-requires
 reaches-requires c κs = let o = from c in moved-range (m o) (t o) (i o) (s o) o.args.moved o.pre.moved ∙ limits-in-range c
@@ -106,15 +106,15 @@ longer-requires c κs =
 within-cap-requires : tie.Need-within-cap-requires
 within-cap-requires c κs =
     let o = origin c in
-    record { whole = o.pre.whole; one = λ k h. rw (longer-is c) (listed-one (longerReach (m o) (t o) (i o) (s o)) (move-one (m o) (t o) (i o) (s o)) k h) }
+    record { whole = o.pre.whole; one = λ k h. rw (longer-is c) (listed-one (longer_reach (m o) (t o) (i o) (s o)) (move-one (m o) (t o) (i o) (s o)) k h) }
 
 returns-2 : tie.Need-returns-2
 returns-2 c =
-    sym (first-skip limitPast _ (limits-in-range (inside c.before.before)) ∙ first-skip moveTooHeavy [] (sym (light-is c.before) ∙ c.if2.true) ∙ first-nothing)
+    sym (first-skip limit_past _ (limits-in-range (inside c.before.before)) ∙ first-skip move_too_heavy [] (sym (light-is c.before) ∙ c.if2.true) ∙ first-nothing)
 
 returns-3 : tie.Need-returns-3
 returns-3 c =
-    sym (first-skip limitPast _ (limits-in-range (inside c.before.before)) ∙ first-hit moveTooHeavy [] (sym (light-is c.before) ∙ c.if2.false))
+    sym (first-skip limit_past _ (limits-in-range (inside c.before.before)) ∙ first-hit move_too_heavy [] (sym (light-is c.before) ∙ c.if2.false))
 
 pub refusal-spec : {M : Type 1} → statement M
 refusal-spec =

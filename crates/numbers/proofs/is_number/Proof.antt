@@ -1,7 +1,7 @@
 -- `numbers::is_number` meets its contract: by the cases of the kind. Assumes nothing.
 use mathlib.Core.Path.{sym, ap, ◌∙◌}
 use borrow.Author.Rules.{rules}
-use Rattle.numbers.specs.Numbers.{magnitude, isNumber}
+use Rattle.numbers.specs.Numbers.{magnitude, is_number}
 use Rattle.numbers.proofs.Reading.{ready-decimal, ready-hexadecimal}
 use Rattle.numbers.proofs.is_number.Statement.{statement}
 use Rattle.numbers.proofs.is_number.Tie as tie
@@ -29,21 +29,21 @@ unfolding magnitude
 returns c =
     let a = c.before.before.before.before.args in
     ap (λ n. n.said) c.digits-at.ensures
-    ∙ sym (ap (isNumber a.line.now a.k) c.before.enum_told.given.1)
+    ∙ sym (ap (is_number a.line.now a.k) c.before.enum_told.given.1)
 
 returns-2 : tie.Need-returns-2
 unfolding magnitude
 returns-2 c =
     let a = c.before.before.before.before.args in
     ap (λ n. n.said) c.signless-at.ensures
-    ∙ sym (ap (isNumber a.line.now a.k) c.before.enum-told2.given.1)
+    ∙ sym (ap (is_number a.line.now a.k) c.before.enum-told2.given.1)
 
 returns-3 : tie.Need-returns-3
 unfolding magnitude
 returns-3 c =
     let a = c.before.before.before.before.args in
     ap (λ n. n.said) c.digits-at2.ensures
-    ∙ sym (ap (isNumber a.line.now a.k) c.before.enum-told3.given.1)
+    ∙ sym (ap (is_number a.line.now a.k) c.before.enum-told3.given.1)
 
 pub is-number-spec : {M : Type 1} → statement M
 is-number-spec =

@@ -2,7 +2,7 @@
 -- Assumes nothing.
 use mathlib.Core.Path.{sym, ap, ◌∙◌}
 use borrow.Author.Rules.{rules}
-use Rattle.numbers.specs.Numbers.{hasMinus}
+use Rattle.numbers.specs.Numbers.{has_minus}
 use Rattle.words.proofs.Slices.{slice-none, slice-more}
 use Rattle.numbers.proofs.minus_at.Statement.{statement}
 use Rattle.numbers.proofs.minus_at.Tie as tie
@@ -15,7 +15,7 @@ returns c =
     let d = c.before.before in
     let word = d.word_at.result in
     let place = d.word_at.ensures in
-    sym (ap hasMinus (sym place.bytes ∙ slice-none word.start word.end d.before.before.args.line.now c.if1.true place.within))
+    sym (ap has_minus (sym place.bytes ∙ slice-none word.start word.end d.before.before.args.line.now c.if1.true place.within))
 
 shared-slice-read-result : tie.Need-shared-slice-read-result
 shared-slice-read-result c = search rules
@@ -25,7 +25,7 @@ returns-2 c =
     let d = c.before.before.before in
     let word = d.word_at.result in
     let place = d.word_at.ensures in
-    sym (ap hasMinus (sym place.bytes ∙ slice-more word.start word.end d.before.before.args.line.now c.before.if1.false place.within))
+    sym (ap has_minus (sym place.bytes ∙ slice-more word.start word.end d.before.before.args.line.now c.before.if1.false place.within))
 
 pub minus-at-spec : {M : Type 1} → statement M
 minus-at-spec = tie.close (tie.spec word-at-requires returns shared-slice-read-result returns-2)

@@ -11,7 +11,7 @@ use lib.IntN.{pos, neg_ℤ, ◌-ℤ◌, +ℤ_idl}
 use mir.Syntax.{w64}
 use mir.Val.{SFits, to_z, of_z}
 use mir.Facts.{to_z-of_z, to_z_pos}
-use Rattle.words.specs.Words.{wordAt}
+use Rattle.words.specs.Words.{word_at}
 use Rattle.numbers.specs.Numbers.{magnitude, signed, signless, signed_of, least}
 use Rattle.numbers.proofs.Reading.{signless-within}
 use Rattle.numbers.proofs.signed_at.Statement.{statement}
@@ -39,7 +39,7 @@ minus-at-requires c κs = search rules
 -- the word's magnitude, its bound and its sign
 module _ (c : tie.After-minus-at) where
   abbrev word : List ℕ
-  word = wordAt c.before.before.before.args.line.now c.before.before.before.args.k
+  word = word_at c.before.before.before.args.line.now c.before.before.before.args.k
 
   abbrev n : ℕ
   n = c.before.signless-at.result.value

@@ -8,8 +8,8 @@ use native.Mathlib.Omega.{arith}
 use borrow.Author.Rules.{rules}
 use lib.ListN.{length, take, drop}
 use lib.Seq.{slice, length-slice, drop-drop}
-use Rattle.words.specs.Words.{wordAt}
-use Rattle.numbers.specs.Numbers.{digits, least, hasMinus, signless}
+use Rattle.words.specs.Words.{word_at}
+use Rattle.numbers.specs.Numbers.{digits, least, has_minus, signless}
 use Rattle.numbers.proofs.Reading.{minus-some}
 use Rattle.numbers.proofs.signless_at.Statement.{statement}
 use Rattle.numbers.proofs.signless_at.Tie as tie
@@ -26,7 +26,7 @@ module _ (c : tie.After-minus-at) where
   line = c.before.before.before.args.line.now
 
   abbrev word : List ℕ
-  word = wordAt line c.before.before.before.args.k
+  word = word_at line c.before.before.before.args.k
 
   bytes : slice c.before.word_at.result.start c.before.word_at.result.end line ≡ word
   bytes = c.before.word_at.ensures.bytes
@@ -39,7 +39,7 @@ add-digits-in : tie.Need-overflow-add-digits-in
 add-digits-in c =
     let d = c.before.before in
     let place = d.before.word_at.result in
-    let minus : hasMinus (word d) ≡ true = sym d.minus-at.ensures ∙ c.before.if1.true in
+    let minus : has_minus (word d) ≡ true = sym d.minus-at.ensures ∙ c.before.if1.true in
     omega (arith, minus-some (word d) minus, ap length (bytes d), length-slice place.start place.end (line d) d.before.word_at.ensures.within)
 
 digits-in-requires : tie.Need-digits-in-requires

@@ -8,8 +8,8 @@ use native.Mathlib.Omega.{arith}
 use borrow.Author.Rules.{rules}
 use borrow.Author.Tests.{le-leb, lt-leb, not-true, not-false}
 use lib.Dec.{leb}
-use Rattle.numbers.specs.Numbers.{digitOf, said, unsaid}
-use Rattle.numbers.specs.Steps.{withByte}
+use Rattle.numbers.specs.Numbers.{digit_of, said, unsaid}
+use Rattle.numbers.specs.Steps.{with_byte}
 use Rattle.numbers.specs.declared.Number.{Number}
 use Rattle.numbers.proofs.with_byte.Statement.{statement}
 use Rattle.numbers.proofs.with_byte.Tie as tie
@@ -18,7 +18,7 @@ use Rattle.numbers.proofs.with_byte.Tie as tie
 abbrev chosen : ℕ → Number → ℕ → Bool → Bool → Bool → Number
 chosen base past d s t u = cond s (cond t unsaid (cond u (said (past.value * base + d)) unsaid)) past
 
-by_tests : (base limit : ℕ) (past : Number) (b d : ℕ) (s t u : Bool) → d ≡ digitOf b → past.said ≡ s → leb base d ≡ t → leb (past.value * base + d) limit ≡ u → chosen base past d s t u ≡ withByte base limit past b
+by_tests : (base limit : ℕ) (past : Number) (b d : ℕ) (s t u : Bool) → d ≡ digit_of b → past.said ≡ s → leb base d ≡ t → leb (past.value * base + d) limit ≡ u → chosen base past d s t u ≡ with_byte base limit past b
 by_tests base limit past b d s t u e p q r =
     sym (ap (λ s. chosen base past d s t u) p)
     ∙ sym (ap (λ t. chosen base past d past.said t u) q)
@@ -28,7 +28,7 @@ by_tests base limit past b d s t u e p q r =
 returns : tie.Need-returns
 returns c =
     let a = c.before.before.args in
-    let d = digitOf a.byte in
+    let d = digit_of a.byte in
     by_tests a.base a.limit a.past a.byte d false (leb a.base d) (leb (a.past.value * a.base + d) a.limit) refl (not-true a.past.said c.if1.true) refl refl
 
 digit-of-requires : tie.Need-digit-of-requires
@@ -44,7 +44,7 @@ module _ (c : tie.After-digit-of) where
   abbrev d : ℕ
   d = c.digit-of.result
 
-  begun : (t u : Bool) → leb start.args.base d ≡ t → leb (start.args.past.value * start.args.base + d) start.args.limit ≡ u → chosen start.args.base start.args.past d true t u ≡ withByte start.args.base start.args.limit start.args.past start.args.byte
+  begun : (t u : Bool) → leb start.args.base d ≡ t → leb (start.args.past.value * start.args.base + d) start.args.limit ≡ u → chosen start.args.base start.args.past d true t u ≡ with_byte start.args.base start.args.limit start.args.past start.args.byte
   begun t u =
       by_tests start.args.base start.args.limit start.args.past start.args.byte d true t u c.digit-of.ensures (not-false start.args.past.said c.before.if1.false)
 

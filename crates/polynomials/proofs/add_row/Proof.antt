@@ -17,7 +17,7 @@ use Rattle.polynomials.specs.Numbers.{ints, nats}
 use Rattle.polynomials.specs.Order.{place}
 use Rattle.polynomials.specs.Group.{number}
 use Rattle.polynomials.specs.Downward.{down}
-use Rattle.polynomials.specs.Limits.{cap, highestDegree}
+use Rattle.polynomials.specs.Limits.{cap, highest_degree}
 use Rattle.polynomials.specs.Ready.{Reached}
 use Rattle.polynomials.specs.declared.Weighed.TheVariants.{Within}
 use Rattle.polynomials.proofs.Cap.{joint-within, joint-first, joint-second, reach-room, reach-past}
@@ -72,7 +72,7 @@ module _ (c : tie.Start invariant-loop decreases-loop) where
   abbrev product : ℕ
   product = c.args.sum * c.args.v.size
 
-  low : c.args.degree ≤ highestDegree
+  low : c.args.degree ≤ highest_degree
   low = c.requires.1.0
 
   u-reached : Reached c.args.u

@@ -6,7 +6,7 @@ use lib.ListN.{get_or}
 use Rattle.polynomials.specs.Numbers.{ints}
 use Rattle.polynomials.specs.Order.{below}
 use Rattle.polynomials.specs.Group.{number}
-use Rattle.polynomials.specs.Downward.{down, downward, rowWeight}
+use Rattle.polynomials.specs.Downward.{down, downward, row_weight}
 
 -- four numbers 1, 2, 3, 4, each product one digit more: the last number comes first
 abbrev digit : ℤ → ℤ → ℤ
@@ -31,6 +31,6 @@ each-product = refl
 
 -- of 1 - 2u + 3v - 4uu + 5uv - 6vv at a reach of 10: 1 + 20 + 400 beside no v, 3 + 50 beside v, 6 beside vv, and nothing beside more
 rows-weighed : (let l = pos 1 ∷ neg_ℤ (pos 2) ∷ pos 3 ∷ neg_ℤ (pos 4) ∷ pos 5 ∷ neg_ℤ (pos 6) ∷ [] in
-    rowWeight 2 l 10 0 ∷ rowWeight 2 l 10 1 ∷ rowWeight 2 l 10 2 ∷ rowWeight 2 l 10 3 ∷ []) ≡ 421 ∷ 53 ∷ 6 ∷ 0 ∷ []
+    row_weight 2 l 10 0 ∷ row_weight 2 l 10 1 ∷ row_weight 2 l 10 2 ∷ row_weight 2 l 10 3 ∷ []) ≡ 421 ∷ 53 ∷ 6 ∷ 0 ∷ []
 unfolding down number below
 rows-weighed = refl

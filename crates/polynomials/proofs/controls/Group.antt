@@ -5,7 +5,7 @@ use lib.IntN.{ℤ, pos, negsuc, pow, one}
 use Rattle.polynomials.specs.Sum.{sum, listed}
 use Rattle.polynomials.specs.Order.{powers, below}
 use Rattle.polynomials.specs.Binomial.{choose}
-use Rattle.polynomials.specs.Group.{number, term, evaluated, given, movedNumber, replaced, value, weight, moved}
+use Rattle.polynomials.specs.Group.{number, term, evaluated, given, moved_number, replaced, value, weight, moved}
 use Rattle.polynomials.specs.declared.Variable.TheVariants.{First, Second}
 
 -- 2 - 3 u + 5 v + 7 u² - 11 u v + 13 v²
@@ -24,12 +24,12 @@ sample-weight = refl
 
 -- u + 1 for u: the constant gains -3 + 7, u gains 14, v loses 11
 sample-first : moved First (pos 1) sample ≡ pos 6 ∷ pos 11 ∷ negsuc 5 ∷ pos 7 ∷ negsuc 10 ∷ pos 13 ∷ []
-unfolding sample replaced listed movedNumber given number sum powers below choose pow one
+unfolding sample replaced listed moved_number given number sum powers below choose pow one
 sample-first = refl
 
 -- v - 2 for v: the constant gains -10 + 52, u gains 22, v loses 52
 sample-second : moved Second (negsuc 1) sample ≡ pos 44 ∷ pos 19 ∷ negsuc 46 ∷ pos 7 ∷ negsuc 10 ∷ pos 13 ∷ []
-unfolding sample replaced listed movedNumber given number sum powers below choose pow one
+unfolding sample replaced listed moved_number given number sum powers below choose pow one
 sample-second = refl
 
 -- u³ with u + 2 for u: 8 + 12 u + 6 u² + u³
@@ -37,7 +37,7 @@ cube : List ℤ
 cube = pos 0 ∷ pos 0 ∷ pos 0 ∷ pos 0 ∷ pos 0 ∷ pos 0 ∷ pos 1 ∷ pos 0 ∷ pos 0 ∷ pos 0 ∷ []
 
 cube-moved : moved First (pos 2) cube ≡ pos 8 ∷ pos 12 ∷ pos 0 ∷ pos 6 ∷ pos 0 ∷ pos 0 ∷ pos 1 ∷ pos 0 ∷ pos 0 ∷ pos 0 ∷ []
-unfolding cube replaced listed movedNumber given number sum powers below choose pow one
+unfolding cube replaced listed moved_number given number sum powers below choose pow one
 cube-moved = refl
 
 -- u v³ with v - 1 for v, degree 4: -u + 3 u v - 3 u v² + u v³
@@ -45,7 +45,7 @@ mixed : List ℤ
 mixed = pos 0 ∷ pos 0 ∷ pos 0 ∷ pos 0 ∷ pos 0 ∷ pos 0 ∷ pos 0 ∷ pos 0 ∷ pos 0 ∷ pos 0 ∷ pos 0 ∷ pos 0 ∷ pos 0 ∷ pos 1 ∷ pos 0 ∷ []
 
 mixed-moved : moved Second (negsuc 0) mixed ≡ pos 0 ∷ negsuc 0 ∷ pos 0 ∷ pos 0 ∷ pos 3 ∷ pos 0 ∷ pos 0 ∷ pos 0 ∷ negsuc 2 ∷ pos 0 ∷ pos 0 ∷ pos 0 ∷ pos 0 ∷ pos 1 ∷ pos 0 ∷ []
-unfolding mixed replaced listed movedNumber given number sum powers below choose pow one
+unfolding mixed replaced listed moved_number given number sum powers below choose pow one
 mixed-moved = refl
 
 -- no power of v, at a reading of 0: 0⁰ counts as 1

@@ -3,7 +3,7 @@ use mathlib.Core.Path.{◌≡◌, refl}
 use mathlib.Core.List.{List, [], ◌∷◌}
 use Prim.Native.Nat.{◌*◌, ◌^◌, ◌<◌}
 use native.Mathlib.Omega.{arith}
-use Rattle.polynomials.specs.Limits.{cap, farthest, highestDegree, against, joint}
+use Rattle.polynomials.specs.Limits.{cap, farthest, highest_degree, against, joint}
 use Rattle.polynomials.specs.declared.Weighed.TheVariants.{Within, Passed}
 
 cap-is : cap ≡ 9 * 10 ^ 18
@@ -22,5 +22,5 @@ one_passes : joint 9000000000000000001 0 ∷ joint 0 9000000000000000001 ∷ [] 
 one_passes = refl
 
 -- the largest number that multiplying out gives, 2⁴ times the highest power of a shift at most, fits 64 bits
-fourth-power : 2 ^ highestDegree * farthest ^ highestDegree < 2 ^ 63
+fourth-power : 2 ^ highest_degree * farthest ^ highest_degree < 2 ^ 63
 fourth-power = omega arith

@@ -9,7 +9,7 @@ use lib.ListN.{get_or, get_or-eq_default}
 use mir.Facts.{to_z-of_z}
 use Rattle.polynomials.specs.Order.{size, place}
 use Rattle.polynomials.specs.Group.{number}
-use Rattle.polynomials.specs.Limits.{highestDegree}
+use Rattle.polynomials.specs.Limits.{highest_degree}
 use Rattle.polynomials.proofs.Places.{below-is, below-highest, place-below}
 use Rattle.polynomials.proofs.number_at.Statement.{statement}
 use Rattle.polynomials.proofs.number_at.Tie as tie
@@ -21,8 +21,8 @@ module _ (c : tie.Start) where
   at-is : at ≡ place c.args.p c.args.q
   at-is = ap (λ n. n + c.args.q) (below-is (c.args.p + c.args.q))
 
-  low : at < size highestDegree
-  low = omega (arith, at-is, place-below (highestDegree + 1) c.args.p c.args.q (omega (arith, c.requires)))
+  low : at < size highest_degree
+  low = omega (arith, at-is, place-below (highest_degree + 1) c.args.p c.args.q (omega (arith, c.requires)))
 
 add-degree : tie.Need-overflow-add-degree
 add-degree c = search rules

@@ -13,8 +13,8 @@ use mir.Facts.{to_z-of_z}
 use Rattle.whole.proofs.Machine.{op-bits, op-back}
 use Rattle.polynomials.specs.Numbers.{ints, nats}
 use Rattle.polynomials.specs.Group.{number}
-use Rattle.polynomials.specs.Downward.{down, rowDownward, rowWeight}
-use Rattle.polynomials.specs.Limits.{cap, highestDegree}
+use Rattle.polynomials.specs.Downward.{down, row_downward, row_weight}
+use Rattle.polynomials.specs.Limits.{cap, highest_degree}
 use Rattle.polynomials.proofs.Downward.{down-start, down-more, down-all}
 use Rattle.polynomials.proofs.DownwardBounds.{number_size, row-light, product-fits, next_fits}
 use Rattle.polynomials.proofs.row_at.Statement.{statement}
@@ -22,7 +22,7 @@ use Rattle.polynomials.proofs.row_at.Tie as tie
 
 abbrev invariant-loop : tie.invariant-loop
 invariant-loop group q x p₀ row₀ p row =
-    (p ≤ highestDegree - q) × (to_z w64 row ≡ down ints ◌*ℤ◌ (λ i. number ints group i q) (to_z w64 x) (highestDegree - q - p) p)
+    (p ≤ highest_degree - q) × (to_z w64 row ≡ down ints ◌*ℤ◌ (λ i. number ints group i q) (to_z w64 x) (highest_degree - q - p) p)
 
 abbrev decreases-loop : tie.decreases-loop
 decreases-loop group q x p₀ row₀ p row = p
@@ -40,7 +40,7 @@ module _ (c : tie.Start invariant-loop decreases-loop) where
   q = c.args.q
 
   abbrev last : ℕ
-  last = highestDegree - q
+  last = highest_degree - q
 
   abbrev number_of : ℕ → ℤ
   number_of p = number ints l p q
@@ -52,16 +52,16 @@ module _ (c : tie.Start invariant-loop decreases-loop) where
   abbrev r : ℕ
   r = max 1 (nat_abs x)
 
-  light : rowWeight highestDegree l r q ≤ cap
+  light : row_weight highest_degree l r q ≤ cap
   light =
-      N.le_trans (row-light highestDegree l r 1 c.requires.0.few (N.le_refl 1) q c.requires.1)
+      N.le_trans (row-light highest_degree l r 1 c.requires.0.few (N.le_refl 1) q c.requires.1)
       (rw (to_z-of_z c.ranges.x) c.requires.0.light)
 
   product : (p : ℕ) → p < last → SFits w64 (row (p + 1) *ℤ x)
-  product = product-fits number_of _ x r (λ p. number_size highestDegree l p q) (N.le-max_right 1 (nat_abs x)) last (N.le-max_left 1 (nat_abs x)) light
+  product = product-fits number_of _ x r (λ p. number_size highest_degree l p q) (N.le-max_right 1 (nat_abs x)) last (N.le-max_left 1 (nat_abs x)) light
 
   next : (p : ℕ) → p < last → SFits w64 (row (p + 1) *ℤ x +ℤ number_of p)
-  next = next_fits number_of _ x r (λ p. number_size highestDegree l p q) (N.le-max_right 1 (nat_abs x)) last (N.le-max_left 1 (nat_abs x)) light
+  next = next_fits number_of _ x r (λ p. number_size highest_degree l p q) (N.le-max_right 1 (nat_abs x)) last (N.le-max_left 1 (nat_abs x)) light
 
 -- ════ at a turn, which takes the power one below
 module _ (c : tie.In-loop invariant-loop decreases-loop) where
@@ -129,7 +129,7 @@ returns c =
     let a = c.before.before.before in
     let e : c.before.loop.p ≡ 0 = omega arith in
     c.before.loop.invariant.1 ∙ ap (row a) e ∙ down-all ints ◌*ℤ◌ (number_of a) (x a) (last a)
-    ∙ ap (λ z. rowDownward ints ◌*ℤ◌ highestDegree (number ints (l a)) z (q a)) (to_z-of_z a.ranges.x)
+    ∙ ap (λ z. row_downward ints ◌*ℤ◌ highest_degree (number ints (l a)) z (q a)) (to_z-of_z a.ranges.x)
 
 pub row-at-spec : {M : Type 1} → statement M
 row-at-spec =

@@ -13,8 +13,8 @@ use mir.Facts.{to_z-of_z}
 use Rattle.whole.proofs.Machine.{op-bits, op-back}
 use Rattle.polynomials.specs.Numbers.{ints, nats}
 use Rattle.polynomials.specs.Group.{number, value}
-use Rattle.polynomials.specs.Downward.{down, rowDownward, rowWeight}
-use Rattle.polynomials.specs.Limits.{cap, highestDegree}
+use Rattle.polynomials.specs.Downward.{down, row_downward, row_weight}
+use Rattle.polynomials.specs.Limits.{cap, highest_degree}
 use Rattle.polynomials.specs.Ready.{Readable}
 use Rattle.polynomials.proofs.Semiring.{whole}
 use Rattle.polynomials.proofs.Bounds.{weight-mono}
@@ -25,7 +25,7 @@ use Rattle.polynomials.proofs.value_at.Tie as tie
 
 abbrev invariant-loop : tie.invariant-loop
 invariant-loop group x y q₀ sum₀ q sum =
-    (q ≤ highestDegree) × (to_z w64 sum ≡ down ints ◌*ℤ◌ (rowDownward ints ◌*ℤ◌ highestDegree (number ints group) (to_z w64 x)) (to_z w64 y) (highestDegree - q) q)
+    (q ≤ highest_degree) × (to_z w64 sum ≡ down ints ◌*ℤ◌ (row_downward ints ◌*ℤ◌ highest_degree (number ints group) (to_z w64 x)) (to_z w64 y) (highest_degree - q) q)
 
 abbrev decreases-loop : tie.decreases-loop
 decreases-loop group x y q₀ sum₀ q sum = q
@@ -43,10 +43,10 @@ module _ (c : tie.Start invariant-loop decreases-loop) where
   l = c.args.group.now
 
   abbrev row : ℕ → ℤ
-  row = rowDownward ints ◌*ℤ◌ highestDegree (number ints l) x
+  row = row_downward ints ◌*ℤ◌ highest_degree (number ints l) x
 
   abbrev rows : ℕ → ℤ
-  rows q = down ints ◌*ℤ◌ row y (highestDegree - q) q
+  rows q = down ints ◌*ℤ◌ row y (highest_degree - q) q
 
   -- their reaches
   abbrev r : ℕ
@@ -61,14 +61,14 @@ module _ (c : tie.Start invariant-loop decreases-loop) where
   row-ready : Readable l x (pos 0)
   row-ready = record { few = ready.few; light = N.le_trans (weight-mono l (N.le_refl r) (N.le-max_left 1 (nat_abs y))) ready.light }
 
-  light : down nats ◌*◌ (rowWeight highestDegree l r) t highestDegree 0 ≤ cap
-  light = N.le_trans (N.le_of_eq (weight-rows highestDegree l r t ready.few highestDegree (N.le_refl highestDegree))) ready.light
+  light : down nats ◌*◌ (row_weight highest_degree l r) t highest_degree 0 ≤ cap
+  light = N.le_trans (N.le_of_eq (weight-rows highest_degree l r t ready.few highest_degree (N.le_refl highest_degree))) ready.light
 
-  product : (q : ℕ) → q < highestDegree → SFits w64 (rows (q + 1) *ℤ y)
-  product = product-fits row _ y t (λ q. row-size highestDegree l x r q (N.le-max_right 1 (nat_abs x))) (N.le-max_right 1 (nat_abs y)) highestDegree (N.le-max_left 1 (nat_abs y)) light
+  product : (q : ℕ) → q < highest_degree → SFits w64 (rows (q + 1) *ℤ y)
+  product = product-fits row _ y t (λ q. row-size highest_degree l x r q (N.le-max_right 1 (nat_abs x))) (N.le-max_right 1 (nat_abs y)) highest_degree (N.le-max_left 1 (nat_abs y)) light
 
-  next : (q : ℕ) → q < highestDegree → SFits w64 (rows (q + 1) *ℤ y +ℤ row q)
-  next = next_fits row _ y t (λ q. row-size highestDegree l x r q (N.le-max_right 1 (nat_abs x))) (N.le-max_right 1 (nat_abs y)) highestDegree (N.le-max_left 1 (nat_abs y)) light
+  next : (q : ℕ) → q < highest_degree → SFits w64 (rows (q + 1) *ℤ y +ℤ row q)
+  next = next_fits row _ y t (λ q. row-size highest_degree l x r q (N.le-max_right 1 (nat_abs x))) (N.le-max_right 1 (nat_abs y)) highest_degree (N.le-max_left 1 (nat_abs y)) light
 
 -- ════ at a turn, which takes the power one below
 module _ (c : tie.In-loop invariant-loop decreases-loop) where
@@ -78,7 +78,7 @@ module _ (c : tie.In-loop invariant-loop decreases-loop) where
   abbrev q : ℕ
   q = c.before.loop.q - 1
 
-  inside : q < highestDegree
+  inside : q < highest_degree
   inside = omega arith
 
   sum_is : to_z w64 c.before.loop.sum ≡ rows start (q + 1)
@@ -103,7 +103,7 @@ row-at-requires c κs = (row-ready c, N.le_refl _)
 loop-holds : tie.Need-loop-init invariant-loop decreases-loop
 loop-holds c = (
   N.le_refl _,
-  to_z-of_z (sfits_of {z = c.row_at.result} c.row_at.type-inv) ∙ c.row_at.ensures ∙ sym (down-start ints ◌*ℤ◌ _ _ highestDegree),
+  to_z-of_z (sfits_of {z = c.row_at.result} c.row_at.type-inv) ∙ c.row_at.ensures ∙ sym (down-start ints ◌*ℤ◌ _ _ highest_degree),
 )
 
 sub-q : tie.Need-overflow-sub-q invariant-loop decreases-loop
@@ -125,15 +125,15 @@ loop-again : tie.Need-loop-preserved invariant-loop decreases-loop
 loop-again c = (
   N.le_of_lt (inside (turn c)),
   op-back ◌+ℤ◌ (product_is (turn c)) (row_is c) (next (s c) (q (turn c)) (inside (turn c)))
-      ∙ sym (down-more ints ◌*ℤ◌ _ (y (s c)) highestDegree (q (turn c)) (inside (turn c))),
+      ∙ sym (down-more ints ◌*ℤ◌ _ (y (s c)) highest_degree (q (turn c)) (inside (turn c))),
 )
 
 returns : tie.Need-returns invariant-loop decreases-loop
 returns c =
     let a = c.before.before.before in
     let e : c.before.loop.q ≡ 0 = omega arith in
-    c.before.loop.invariant.1 ∙ ap (rows a) e ∙ down-all ints ◌*ℤ◌ (row a) (y a) highestDegree
-    ∙ downward-value whole highestDegree (l a) a.requires.few (x a) (y a) ∙ ap₂ (value (l a)) (to_z-of_z a.ranges.x) (to_z-of_z a.ranges.y)
+    c.before.loop.invariant.1 ∙ ap (rows a) e ∙ down-all ints ◌*ℤ◌ (row a) (y a) highest_degree
+    ∙ downward-value whole highest_degree (l a) a.requires.few (x a) (y a) ∙ ap₂ (value (l a)) (to_z-of_z a.ranges.x) (to_z-of_z a.ranges.y)
 
 pub value-at-spec : {M : Type 1} → statement M
 value-at-spec =

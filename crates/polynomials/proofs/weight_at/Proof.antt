@@ -6,21 +6,21 @@ use native.Mathlib.Nat as N
 use native.Mathlib.Omega.{arith}
 use borrow.Author.Rules.{rules}
 use Rattle.polynomials.specs.Group.{weight}
-use Rattle.polynomials.specs.Downward.{rowWeight}
+use Rattle.polynomials.specs.Downward.{row_weight}
 use Rattle.polynomials.specs.Limits.{cap, against, joint}
 use Rattle.polynomials.proofs.Cap.{against-within, against-passed, within-joint, passed-joint}
-use Rattle.polynomials.proofs.DownwardBounds.{rowsWeight, rows_none, rows_more, rows-part, rows_all}
+use Rattle.polynomials.proofs.DownwardBounds.{rows_weight, rows_none, rows_more, rows-part, rows_all}
 use Rattle.polynomials.proofs.weight_at.Statement.{statement}
 use Rattle.polynomials.proofs.weight_at.Tie as tie
 
 abbrev invariant-loop : tie.invariant-loop
-invariant-loop group degree u v sum₀ rows₀ sum rows = (rows ≤ degree + 1) × (sum ≡ rowsWeight degree group u.size v.size rows)
+invariant-loop group degree u v sum₀ rows₀ sum rows = (rows ≤ degree + 1) × (sum ≡ rows_weight degree group u.size v.size rows)
 
 abbrev decreases-loop : tie.decreases-loop
 decreases-loop group degree u v sum₀ rows₀ sum rows = rows
 
 abbrev rest : tie.Start invariant-loop decreases-loop → ℕ → ℕ
-rest a = rowsWeight a.args.degree a.args.group.now a.args.u.size a.args.v.size
+rest a = rows_weight a.args.degree a.args.group.now a.args.u.size a.args.v.size
 
 abbrev all : tie.Start invariant-loop decreases-loop → ℕ
 all a = weight a.args.group.now a.args.u.size a.args.v.size
@@ -40,7 +40,7 @@ module _ (c : tie.After-add-row invariant-loop decreases-loop) where
   product = here.loop.sum * start.args.v.size
 
   abbrev row : ℕ
-  row = rowWeight start.args.degree start.args.group.now start.args.u.size q
+  row = row_weight start.args.degree start.args.group.now start.args.u.size q
 
   result-is : c.add_row.result ≡ joint product row
   result-is = c.add_row.ensures

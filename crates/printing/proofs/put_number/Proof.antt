@@ -14,7 +14,7 @@ use mir.Syntax.{w64}
 use mir.Val.{SFits}
 use mir.Facts.{to_z-of_z, sfits_lit, Fits-nat_abs}
 use Rattle.whole.proofs.Machine.{lt-taken, lt-left, sfits-bound}
-use Rattle.printing.specs.Spell.{decimal, spell, written, longestNumber}
+use Rattle.printing.specs.Spell.{decimal, spell, written, longest_number}
 use Rattle.printing.proofs.Digits.{decimal-short}
 use Rattle.printing.proofs.Writing.{written-cons}
 use Rattle.printing.proofs.put_number.Statement.{statement}
@@ -35,7 +35,7 @@ record Ready (out₀ : List ℕ) (at : ℕ) (x : ℤ) (out : List ℕ) (start n 
   place : start + length (decimal n) ≡ at + length (spell x)
   whole : written out start (decimal n) ≡ written out₀ at (spell x)
 
-module _ (out₀ : List ℕ) (at : ℕ) (x : ℤ) (room : at + longestNumber ≤ length out₀) (fits : SFits w64 x) where
+module _ (out₀ : List ℕ) (at : ℕ) (x : ℤ) (room : at + longest_number ≤ length out₀) (fits : SFits w64 x) where
   short : length (decimal (nat_abs x)) ≤ 19
   short = decimal-short 18 (nat_abs x) (omega (arith, sfits-bound fits))
 

@@ -4,13 +4,13 @@ use mathlib.Core.List.{List, [], ◌∷◌, ◌++◌}
 use Prim.Native.Nat.{ℕ, ◌<◌}
 use lib.IntN.{ℤ, pos, neg_ℤ}
 use Rattle.layout.specs.Shape.{cumulus}
-use Rattle.layout.specs.Reading.{readings, readNumber, readOutput}
+use Rattle.layout.specs.Reading.{readings, read_number, read_output}
 use Rattle.laws.proofs.Refused.{read_kept}
 use Rattle.cumulus_page.specs.Published.{published}
 use Rattle.lines.specs.Line.{parse}
 use Rattle.lines.specs.declared.Line.TheVariants.{Readings, Malformed}
 use Rattle.printing.specs.Spell.{decimal}
-use Rattle.answers.specs.Answers.{zeros, numbered, lineAnswer, program, trimcard}
+use Rattle.answers.specs.Answers.{zeros, numbered, line_answer, program, trimcard}
 use Rattle.answers.specs.Reading.{fresh, Plain}
 use Rattle.answers.proofs.Controls.{at_zero}
 use Rattle.answers.proofs.EachLine.{line_first, line-last}
@@ -25,34 +25,34 @@ unfolding program
 nothing-for-nothing = refl
 
 -- A line is what stands before byte 10. Each is answered by itself, in order,
-pub each-line-is-answered : (line rest : List ℕ) → Plain line → trimcard (line ++ 10 ∷ rest) ≡ lineAnswer published (parse line) ++ trimcard rest
+pub each-line-is-answered : (line rest : List ℕ) → Plain line → trimcard (line ++ 10 ∷ rest) ≡ line_answer published (parse line) ++ trimcard rest
 each-line-is-answered = line_first published
 
 -- and so is a last line without a newline, where it has a byte.
-pub last-line-counts : (b : ℕ) (line : List ℕ) → Plain (b ∷ line) → trimcard (b ∷ line) ≡ lineAnswer published (parse (b ∷ line))
+pub last-line-counts : (b : ℕ) (line : List ℕ) → Plain (b ∷ line) → trimcard (b ∷ line) ≡ line_answer published (parse (b ∷ line))
 last-line-counts = line-last published
 
 -- ════ The answer to a line
 -- To five numbers: the number of the read of the published table, and what it leaves in six zeros,
 pub readings-are-read : (alpha beta xi eta zeta : ℤ)
-    → lineAnswer published (Readings alpha beta xi eta zeta)
+    → line_answer published (Readings alpha beta xi eta zeta)
     ≡ (let state = alpha ∷ beta ∷ xi ∷ eta ∷ zeta ∷ [] in
-    numbered (readNumber cumulus published (readings state) zeros) (readOutput cumulus published (readings state) zeros))
-unfolding lineAnswer
+    numbered (read_number cumulus published (readings state) zeros) (read_output cumulus published (readings state) zeros))
+unfolding line_answer
 readings-are-read alpha beta xi eta zeta = refl
 
 -- which are six zeros on a refusal.
-pub refused-line-has-zeros : (state : List ℤ) → 0 < readNumber cumulus published (readings state) zeros → readOutput cumulus published (readings state) zeros ≡ zeros
+pub refused-line-has-zeros : (state : List ℤ) → 0 < read_number cumulus published (readings state) zeros → read_output cumulus published (readings state) zeros ≡ zeros
 refused-line-has-zeros state = read_kept cumulus published (readings state) zeros refl
 
 -- To a malformed line: 31 and six zeros.
-pub malformed-line : lineAnswer published Malformed ≡ ascii "31 0 0 0 0 0 0\n"
-unfolding lineAnswer decimal
+pub malformed-line : line_answer published Malformed ≡ ascii "31 0 0 0 0 0 0\n"
+unfolding line_answer decimal
 malformed-line = refl
 
 -- An empty line is malformed.
 pub empty-line : (rest : List ℕ) → trimcard (10 ∷ rest) ≡ ascii "31 0 0 0 0 0 0\n" ++ trimcard rest
-unfolding program lineAnswer parse decimal
+unfolding program line_answer parse decimal
 empty-line rest = refl
 
 -- -0 and leading zeros are allowed.

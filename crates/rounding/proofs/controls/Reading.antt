@@ -1,13 +1,13 @@
 -- Floats, given by their bits, read within -150 and 1000.
 use Rattle.std.proofs.Common.{◌≡◌, ℕ, pos, negsuc, refl}
 use lib.Ieee.{binary64, of_bits}
-use Rattle.whole.specs.Nearest.{nearestAway}
+use Rattle.whole.specs.Nearest.{nearest_away}
 use Rattle.rounding.specs.Reading.{whole_of, step_of}
 use Rattle.rounding.specs.declared.Step.{Step}
 use Rattle.rounding.specs.declared.Step.TheVariants.{Whole, NotFinite, Outside}
 
 unfoldable read : ℕ → Step
-unfolding of_bits nearestAway whole_of step_of
+unfolding of_bits nearest_away whole_of step_of
 read b = step_of (of_bits binary64 b) (negsuc 149) (pos 1000)
 
 -- ════ halves: 0.5, 1.5, 2.5, -0.5, -1.5, -2.5

@@ -5,15 +5,15 @@ use lib.Ieee.{Float, nan, inf, fin, up, down, lt, to_unsigned}
 use lib.Ieee.Fits.{down_pos}
 use lib.Ieee.Exact.{HasValue}
 use lib.Ieee.Positive.{num, den, den_pos, positive, positive_of_value}
-use Rattle.whole.specs.Nearest.{nearestUp}
-use Rattle.rounding.specs.Ready.{farthestNear}
+use Rattle.whole.specs.Nearest.{nearest_up}
+use Rattle.rounding.specs.Ready.{farthest_near}
 use Rattle.rounding.proofs.Sides.{half, rounded-below, rounded-from, whole-part-within}
 use Rattle.rounding.proofs.Comparisons.{lt-value}
 use Rattle.rounding.proofs.nearest_magnitude.Statement.{statement}
 use Rattle.rounding.proofs.nearest_magnitude.Tie as tie
 
 -- ---- the whole part
-truncatable : (a : Float) → T (positive a) → num a ≤ farthestNear * den a → T (lt (fin true 1 (pos 0)) a) × T (lt a (fin false 1 (pos 64)))
+truncatable : (a : Float) → T (positive a) → num a ≤ farthest_near * den a → T (lt (fin true 1 (pos 0)) a) × T (lt a (fin false 1 (pos 64)))
 unfolding lt
 truncatable nan p l = absurd p
 truncatable (inf s) p l = absurd p
@@ -24,12 +24,12 @@ truncatable (fin false m e) p l =
     let below : m * up e * 1 < 1 * 2 ^ 64 * down e = omega arith in
     (lt→ltb _ _ above, lt→ltb _ _ below)
 
-truncated : (a : Float) → T (positive a) → num a ≤ farthestNear * den a → to_unsigned 64 a ≡ num a / den a
+truncated : (a : Float) → T (positive a) → num a ≤ farthest_near * den a → to_unsigned 64 a ≡ num a / den a
 unfolding to_unsigned
 truncated nan p l = absurd p
 truncated (inf s) p l = absurd p
 truncated (fin true m e) p l = absurd p
-truncated (fin false m e) p l = omega (arith, whole-part-within (m * up e) (down e) (down_pos e) farthestNear l)
+truncated (fin false m e) p l = omega (arith, whole-part-within (m * up e) (down e) (down_pos e) farthest_near l)
 
 -- ---- by the half above it: y has the value (2q + 1) / 2
 module _ (a y : Float) (q : ℕ) (p : T (positive a)) (e : q ≡ num a / den a) (v : HasValue y false (2 * q + 1) 2) where
@@ -37,10 +37,10 @@ module _ (a y : Float) (q : ℕ) (p : T (positive a)) (e : q ≡ num a / den a) 
   same_test =
       sym (lt-value a y (2 * q + 1) 2 p (positive_of_value y (2 * q + 1) 2 v (omega arith)) (lit< tt) v ∙ ap₂ (λ m n. ltb m ((2 * n + 1) * den a)) (mul_comm (num a) 2) e)
 
-  rounds-down : lt a y ≡ true → q ≡ nearestUp (den a) (num a)
+  rounds-down : lt a y ≡ true → q ≡ nearest_up (den a) (num a)
   rounds-down h = e ∙ rounded-below (num a) (den a) (den_pos a) (same_test ∙ h)
 
-  rounds-up : lt a y ≡ false → q + 1 ≡ nearestUp (den a) (num a)
+  rounds-up : lt a y ≡ false → q + 1 ≡ nearest_up (den a) (num a)
   rounds-up h = ap (λ (n : ℕ). n + 1) e ∙ rounded-from (num a) (den a) (den_pos a) (same_test ∙ h)
 
 -- ---- at the code's places
@@ -54,8 +54,8 @@ module _ (c : tie.After-truncating-f64-to-u64) where
   q-is : q ≡ num a / den a
   q-is = c.truncating-f64-to-u64.ensures ∙ truncated a c.before.requires.0 c.before.requires.1
 
-  q-small : q ≤ farthestNear
-  q-small = subst (λ (n : ℕ). n ≤ farthestNear) (sym q-is) (whole-part-within (num a) (den a) (den_pos a) farthestNear c.before.requires.1)
+  q-small : q ≤ farthest_near
+  q-small = subst (λ (n : ℕ). n ≤ farthest_near) (sym q-is) (whole-part-within (num a) (den a) (den_pos a) farthest_near c.before.requires.1)
 
 truncating-f64-to-u64-requires : tie.Need-truncating-f64-to-u64-requires
 truncating-f64-to-u64-requires c κs = truncatable c.args.a c.requires.0 c.requires.1

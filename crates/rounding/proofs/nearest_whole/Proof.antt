@@ -8,15 +8,15 @@ use mir.ValLaws.{to_z_pos}
 use Rattle.whole.proofs.Identity.{quote, quote-pos, quote-minus, ring1}
 use Rattle.whole.proofs.Linear.{zarith}
 use Rattle.whole.proofs.Machine.{op-bits, op-back}
-use Rattle.whole.specs.Nearest.{nearestUp}
+use Rattle.whole.specs.Nearest.{nearest_up}
 use Rattle.whole.proofs.Nearest.{up-within}
-use Rattle.rounding.specs.Ready.{farthestNear}
+use Rattle.rounding.specs.Ready.{farthest_near}
 use Rattle.rounding.proofs.Signs.{Below, below-zero, positive_of, above_zero, at_zero}
 use Rattle.rounding.proofs.nearest_whole.Statement.{statement}
 use Rattle.rounding.proofs.nearest_whole.Tie as tie
 
 -- ---- a small number as an i64, and turned
-module _ (n : ℕ) (h : n ≤ farthestNear) where
+module _ (n : ℕ) (h : n ≤ farthest_near) where
   fits : SFits w64 (pos n)
   fits = record { sfits = omega arith }
 
@@ -33,15 +33,15 @@ module _ (n : ℕ) (h : n ≤ farthestNear) where
   turned-back = op-back ◌-ℤ◌ (refl {a = pos 0}) plain turned-fits ∙ +ℤ_idl (neg_ℤ (pos n))
 
 -- a near float rounds to a small number
-small : (a : Float) (n : ℕ) → num a ≤ farthestNear * den a → n ≡ nearestUp (den a) (num a) → n ≤ farthestNear
-small a n l e = subst (λ (k : ℕ). k ≤ farthestNear) (sym e) (up-within (den a) (den_pos a) (num a) farthestNear (omega (arith, mul_comm (den a) farthestNear)))
+small : (a : Float) (n : ℕ) → num a ≤ farthest_near * den a → n ≡ nearest_up (den a) (num a) → n ≤ farthest_near
+small a n l e = subst (λ (k : ℕ). k ≤ farthest_near) (sym e) (up-within (den a) (den_pos a) (num a) farthest_near (omega (arith, mul_comm (den a) farthest_near)))
 
 -- ---- below zero
 below : (c : tie.Then1) → Below c.before.args.x
 unfolding of_bits
 below c = below-zero c.before.args.x c.before.requires c.if1.true
 
-small-below : (c : tie.After-nearest-magnitude) → c.nearest-magnitude.result ≤ farthestNear
+small-below : (c : tie.After-nearest-magnitude) → c.nearest-magnitude.result ≤ farthest_near
 small-below c =
     small (neg c.before.before.args.x) c.nearest-magnitude.result (below c.before).small c.nearest-magnitude.ensures
 
@@ -59,7 +59,7 @@ returns c =
     turned-back c.nearest-magnitude.result (small-below c) ∙ ap (λ (n : ℕ). neg_ℤ (pos n)) c.nearest-magnitude.ensures ∙ (below c.before).is
 
 -- ---- above zero
-small-above : (c : tie.After-nearest-magnitude2) → c.nearest-magnitude2.result ≤ farthestNear
+small-above : (c : tie.After-nearest-magnitude2) → c.nearest-magnitude2.result ≤ farthest_near
 small-above c =
     let s = c.before.before.before in
     small s.args.x c.nearest-magnitude2.result s.requires.small c.nearest-magnitude2.ensures

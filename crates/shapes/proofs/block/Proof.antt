@@ -1,6 +1,6 @@
 -- `shapes::block` meets its contract: the numbers of each model. Assumes nothing.
 use Rattle.polynomials.specs.Order.{below}
-use Rattle.layout.specs.Shape.{kindsLength}
+use Rattle.layout.specs.Shape.{kinds_length}
 use borrow.Author.Rules.{rules}
 use Rattle.shapes.proofs.block.Statement.{statement}
 use Rattle.shapes.proofs.block.Tie as tie
@@ -12,11 +12,11 @@ enum-told-2 : tie.Need-enum-told-2
 enum-told-2 c = search rules
 
 returns : tie.Need-returns
-unfolding kindsLength below
+unfolding kinds_length below
 returns c = cc
 
 returns-2 : tie.Need-returns-2
-unfolding kindsLength below
+unfolding kinds_length below
 returns-2 c = cc
 
 pub block_spec : {M : Type 1} → statement M

@@ -14,7 +14,7 @@ fine-cuts-requires : tie.Need-fine-cuts-requires
 fine-cuts-requires c κs = tt
 
 returns : tie.Need-returns
-returns c = ap (ltb 0) c.fine-cuts.ensures ∙ some (shape c.before.args.model).hasFineCut
+returns c = ap (ltb 0) c.fine-cuts.ensures ∙ some (shape c.before.args.model).has_fine_cut
 
 pub has-fine-cut-spec : {M : Type 1} → statement M
 has-fine-cut-spec = tie.close (tie.spec fine-cuts-requires returns)

@@ -3,14 +3,14 @@ use mathlib.Core.Path.{sym, ap}
 use Prim.Native.Nat.{◌<◌}
 use native.Mathlib.Omega.{arith}
 use Rattle.layout.specs.Shape.{shape}
-use Rattle.layout.specs.Numbers.{variablesRoom}
+use Rattle.layout.specs.Numbers.{variables_room}
 use Rattle.layout.specs.Refusals.{outside}
 use Rattle.layout.proofs.Fine.{few-variables}
 use borrow.Author.Rules.{rules}
 use Rattle.shapes.proofs.outside.Statement.{statement}
 use Rattle.shapes.proofs.outside.Tie as tie
 
-few : (c : tie.Start) → c.args.variable < variablesRoom
+few : (c : tie.Start) → c.args.variable < variables_room
 few c = omega (arith, few-variables c.args.model, c.requires)
 
 enum_told : tie.Need-enum-told

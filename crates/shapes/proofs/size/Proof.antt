@@ -5,16 +5,16 @@ use native.Mathlib.Nat as N
 use native.Mathlib.Numerals.{add-one}
 use native.Mathlib.Omega.{arith}
 use Rattle.polynomials.specs.Order.{below}
-use Rattle.polynomials.specs.Limits.{highestDegree}
+use Rattle.polynomials.specs.Limits.{highest_degree}
 use Rattle.polynomials.proofs.Places.{below-is}
 use borrow.Author.Rules.{rules}
 use Rattle.shapes.proofs.size.Statement.{statement}
 use Rattle.shapes.proofs.size.Tie as tie
 
-most : (d : ℕ) → d ≤ highestDegree → (d + 1) * (d + 1 + 1) ≤ (highestDegree + 1) * (highestDegree + 2)
+most : (d : ℕ) → d ≤ highest_degree → (d + 1) * (d + 1 + 1) ≤ (highest_degree + 1) * (highest_degree + 2)
 most d h =
-    let a : d + 1 ≤ highestDegree + 1 = omega arith in
-    let b : d + 1 + 1 ≤ highestDegree + 2 = omega arith in
+    let a : d + 1 ≤ highest_degree + 1 = omega arith in
+    let b : d + 1 + 1 ≤ highest_degree + 2 = omega arith in
     N.mul-le-mul a b
 
 add-n : tie.Need-overflow-add-n

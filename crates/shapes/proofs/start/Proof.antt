@@ -2,7 +2,7 @@
 use mathlib.Core.Path.{◌≡◌, ap}
 use Prim.Native.Nat.{◌+◌, ◌*◌}
 use native.Mathlib.Omega.{arith}
-use Rattle.layout.specs.Shape.{blockLength, blockStart, shape}
+use Rattle.layout.specs.Shape.{block_length, block_start, shape}
 use Rattle.layout.proofs.Fine.{inside, few-table}
 use borrow.Author.Rules.{rules}
 use Rattle.shapes.proofs.start.Statement.{statement}
@@ -12,10 +12,10 @@ module _ (c : tie.After-block) where
   abbrev start : tie.Start
   start = c.before.before
 
-  product_is : c.block.result * start.args.index ≡ blockLength (shape start.args.model) * start.args.index
+  product_is : c.block.result * start.args.index ≡ block_length (shape start.args.model) * start.args.index
   product_is = ap (λ n. n * start.args.index) c.block.ensures
 
-  start_is : c.before.limits.result + c.block.result * start.args.index ≡ blockStart (shape start.args.model) start.args.index
+  start_is : c.before.limits.result + c.block.result * start.args.index ≡ block_start (shape start.args.model) start.args.index
   start_is = omega (arith, product_is, c.before.limits.ensures)
 
 limits-requires : tie.Need-limits-requires

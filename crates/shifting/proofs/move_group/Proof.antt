@@ -14,8 +14,8 @@ use lib.Seq.{get_or-set_same, get_or-set_other}
 use mir.Facts.{to_z-of_z}
 use Rattle.polynomials.specs.Numbers.{ints}
 use Rattle.polynomials.specs.Order.{powers, below}
-use Rattle.polynomials.specs.Binomial.{shiftIn}
-use Rattle.polynomials.specs.Group.{own, movedNumber, replaced, moved}
+use Rattle.polynomials.specs.Binomial.{shift_in}
+use Rattle.polynomials.specs.Group.{own, moved_number, replaced, moved}
 use Rattle.polynomials.specs.declared.Variable.{Variable}
 use Rattle.polynomials.specs.declared.Variable.TheVariants.{First, Second}
 use Rattle.polynomials.proofs.Places.{powers-place}
@@ -33,12 +33,12 @@ others w k = own w (powers k).second (powers k).first
 
 module _ (w : Variable) (s : ℤ) (l : List ℤ) where
   -- what is to stand at a place
-  movedAt : ℕ → ℤ
-  movedAt k = movedNumber ints w s l (powers k).first (powers k).second
+  moved_at : ℕ → ℤ
+  moved_at k = moved_number ints w s l (powers k).first (powers k).second
 
   -- it stands at every place passed
   Filled : List ℤ → ℕ → ℕ → Type 0
-  Filled out b p = (k : ℕ) → k < length l → others w k ≤ b → (b ≤ others w k → mine w k < p) → get_or out k (pos 0) ≡ movedAt k
+  Filled out b p = (k : ℕ) → k < length l → others w k ≤ b → (b ≤ others w k → mine w k < p) → get_or out k (pos 0) ≡ moved_at k
 
   record Stands (out : List ℤ) (b p at : ℕ) : Type 0 where
     long : length out ≡ length l
@@ -49,12 +49,12 @@ module _ (w : Variable) (s : ℤ) (l : List ℤ) where
   unfolding Filled
   none out k h a c = absurd (omega (arith, c (omega arith)))
 
-  number-there : (b p : ℕ) → movedNumber ints w s l (own w p b) (own w b p) ≡ movedAt (chain w b p)
-  unfolding movedAt
-  number-there b p = let e = powers-place (own w p b) (own w b p) in ap₂ (movedNumber ints w s l) (sym e.0) (sym e.1)
+  number-there : (b p : ℕ) → moved_number ints w s l (own w p b) (own w b p) ≡ moved_at (chain w b p)
+  unfolding moved_at
+  number-there b p = let e = powers-place (own w p b) (own w b p) in ap₂ (moved_number ints w s l) (sym e.0) (sym e.1)
 
   -- a number is written, and the loop goes on to the next of the chain
-  more : (out : List ℤ) (b p at step : ℕ) (v : ℤ) → at < length l → Stands out b p at → step ≡ gap w (b + p) → v ≡ movedAt (chain w b p) → Stands (set out at v) b (p + 1) (at + step)
+  more : (out : List ℤ) (b p at step : ℕ) (v : ℤ) → at < length l → Stands out b p at → step ≡ gap w (b + p) → v ≡ moved_at (chain w b p) → Stands (set out at v) b (p + 1) (at + step)
   unfolding Filled
   more out b p at step v h t g e = record {
     long = length-set out at v ∙ t.long;
@@ -62,8 +62,8 @@ module _ (w : Variable) (s : ℤ) (l : List ℤ) where
     filled = λ k i a c. pick k i a c (ℕ_discrete k at);
   }
     where
-      pick : (k : ℕ) → k < length l → others w k ≤ b → (b ≤ others w k → mine w k < p + 1) → Dec (k ≡ at) → get_or (set out at v) k (pos 0) ≡ movedAt k
-      pick k i a c (yes z) = rw z (get_or-set_same out at v (pos 0) (omega (arith, t.long)) ∙ e ∙ ap movedAt (sym t.here))
+      pick : (k : ℕ) → k < length l → others w k ≤ b → (b ≤ others w k → mine w k < p + 1) → Dec (k ≡ at) → get_or (set out at v) k (pos 0) ≡ moved_at k
+      pick k i a c (yes z) = rw z (get_or-set_same out at v (pos 0) (omega (arith, t.long)) ∙ e ∙ ap moved_at (sym t.here))
       pick k i a c (no z) =
           get_or-set_other out at k v (pos 0) z
           ∙ t.filled k i a (λ d. N.lt_of_not-le (λ y. z (sym (chain-powers w k) ∙ ap₂ (chain w) (omega arith) (omega (arith, c d)) ∙ sym t.here)))
@@ -85,20 +85,20 @@ module _ (w : Variable) (s : ℤ) (l : List ℤ) where
 
   -- the first place of a chain is past the group
   full : (out : List ℤ) (b at : ℕ) → length l ≤ at → Stands out b 0 at → out ≡ moved w s l
-  unfolding Filled movedAt replaced
+  unfolding Filled moved_at replaced
   full out b at h t =
-      sym (listed-is (pos 0) (length l) movedAt out t.long (λ k i.
+      sym (listed-is (pos 0) (length l) moved_at out t.long (λ k i.
       let low : others w k < b = N.lt_of_not-le (λ d. omega (arith, ahead b 0 k d (omega arith), t.here)) in
       t.filled k i (omega arith) (λ d. absurd (omega arith))))
 
 abbrev invariant-loop2 : tie.invariant-loop2
-invariant-loop2 from out₀ which rows beside start at₀ p₀ out at p = Stands which (shiftIn rows) from out beside p at
+invariant-loop2 from out₀ which rows beside start at₀ p₀ out at p = Stands which (shift_in rows) from out beside p at
 
 abbrev decreases-loop2 : tie.decreases-loop2
 decreases-loop2 from out₀ which rows beside start at₀ p₀ out at p = length from - at
 
 abbrev invariant-loop : tie.invariant-loop
-invariant-loop from out₀ which rows beside₀ start₀ out beside start = Stands which (shiftIn rows) from out beside 0 start
+invariant-loop from out₀ which rows beside₀ start₀ out beside start = Stands which (shift_in rows) from out beside 0 start
 
 abbrev decreases-loop : tie.decreases-loop
 decreases-loop from out₀ which rows beside₀ start₀ out beside start = length from - start
@@ -112,7 +112,7 @@ module _ (c : tie.In-loop2 invariant-loop2 decreases-loop2 invariant-loop decrea
   w = start.args.which
 
   abbrev s : ℤ
-  s = shiftIn start.args.rows.now
+  s = shift_in start.args.rows.now
 
   abbrev l : List ℤ
   l = start.args.from.now
@@ -142,7 +142,7 @@ unfolding below
 loop-holds c = record {
   long = c.requires.1.1;
   here = by c.args.which;
-  filled = none c.args.which (shiftIn c.args.rows.now) c.args.from.now c.args.out.now;
+  filled = none c.args.which (shift_in c.args.rows.now) c.args.from.now c.args.out.now;
 }
   where
     by : (v : Variable) → 0 ≡ chain v 0 0
@@ -224,7 +224,7 @@ loop-again c =
     let a = (entry c).args in
     let o = (ended c).before.loop2 in
     let n = (begun c).before.loop in
-    next-chain a.which (shiftIn a.rows.now) a.from.now o.out n.beside o.p o.at n.start c.gap2.result (ended c).loop2-test.false o.inv n.inv.here (gap_is c)
+    next-chain a.which (shift_in a.rows.now) a.from.now o.out n.beside o.p o.at n.start c.gap2.result (ended c).loop2-test.false o.inv n.inv.here (gap_is c)
 
 same_length : tie.Need-same-length invariant-loop2 decreases-loop2 invariant-loop decreases-loop
 same_length c = c.before.loop.invariant.long ∙ sym c.before.before.requires.1.1
@@ -233,7 +233,7 @@ returns : tie.Need-returns invariant-loop2 decreases-loop2 invariant-loop decrea
 returns c =
     let a = c.before.before.args in
     let o = c.before.loop in
-    full a.which (shiftIn a.rows.now) a.from.now o.out o.beside o.start c.loop-test.false o.invariant
+    full a.which (shift_in a.rows.now) a.from.now o.out o.beside o.start c.loop-test.false o.invariant
 
 pub move-group-spec : {M : Type 1} → statement M
 move-group-spec =

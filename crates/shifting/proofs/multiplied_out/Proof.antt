@@ -8,7 +8,7 @@ use mir.Syntax.{w64}
 use mir.Val.{to_z, of_z}
 use mir.Facts.{to_z-of_z}
 use Rattle.polynomials.specs.Sum.{listed}
-use Rattle.polynomials.specs.Binomial.{multipliedRows}
+use Rattle.polynomials.specs.Binomial.{multiplied_rows}
 use Rattle.polynomials.specs.Limits.{farthest}
 use Rattle.shifting.proofs.multiplied_out.Statement.{statement}
 use Rattle.shifting.proofs.multiplied_out.Tie as tie
@@ -37,7 +37,7 @@ unfolding listed
 returns c =
     let b = c.before.before.before.before in
     (λ i. b.multiplied-row.ensures i ∷ c.before.before.before.multiplied-row2.ensures i ∷ c.before.before.multiplied-row3.ensures i ∷ c.before.multiplied-row4.ensures i ∷ c.multiplied-row5.ensures i ∷ [])
-    ∙ ap multipliedRows (to_z-of_z b.before.ranges.s)
+    ∙ ap multiplied_rows (to_z-of_z b.before.ranges.s)
 
 pub multiplied-out-spec : {M : Type 1} → statement M
 multiplied-out-spec = tie.close (tie.spec multiplied-row-requires multiplied-row-requires-2 multiplied-row-requires-3 multiplied-row-requires-4 multiplied-row-requires-5 returns)

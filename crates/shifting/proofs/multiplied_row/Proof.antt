@@ -18,9 +18,9 @@ use Rattle.whole.proofs.Magnitudes.{within, within-*, within-pow}
 use Rattle.whole.proofs.Machine.{within-sfits, op-bits, op-back}
 use Rattle.polynomials.specs.Numbers.{ints}
 use Rattle.polynomials.specs.Sum.{listed}
-use Rattle.polynomials.specs.Binomial.{choose, multipliedOut}
-use Rattle.polynomials.specs.Limits.{farthest, highestDegree}
-use Rattle.polynomials.proofs.Listed.{length-listed, getD-listed, listed-is}
+use Rattle.polynomials.specs.Binomial.{choose, multiplied_out}
+use Rattle.polynomials.specs.Limits.{farthest, highest_degree}
+use Rattle.polynomials.proofs.Listed.{length-listed, get_or-listed, listed-is}
 use Rattle.shifting.proofs.multiplied_row.Statement.{statement}
 use Rattle.shifting.proofs.multiplied_row.Tie as tie
 
@@ -32,7 +32,7 @@ record Turn (s : ℤ) (k : ℕ) (row : List ℤ) (power : ℤ) (p : ℕ) : Type 
   few : p ≤ k
   five : length row ≡ 5
   power-is : power ≡ pow s (k - p)
-  done : (i : ℕ) → p ≤ i → i < 5 → get_or row i (pos 0) ≡ multipliedOut ints s k i
+  done : (i : ℕ) → p ≤ i → i < 5 → get_or row i (pos 0) ≡ multiplied_out ints s k i
   left : (i : ℕ) → i < p → get_or row i (pos 0) ≡ pos (choose k i)
 
 choose-small : (k p : ℕ) → choose k p ≤ 2 ^ k
@@ -41,8 +41,8 @@ choose-small k zero = N.one-le-pow k 2 (omega arith)
 choose-small zero (suc p) = omega arith
 choose-small (suc k) (suc p) = omega (arith, choose-small k p, choose-small k (suc p), N.pow-suc 2 k)
 
-module _ (s : ℤ) (near : nat_abs s ≤ farthest) (k : ℕ) (h : k ≤ highestDegree) where
-  number_fits : (p : ℕ) → SFits w64 (multipliedOut ints s k p)
+module _ (s : ℤ) (near : nat_abs s ≤ farthest) (k : ℕ) (h : k ≤ highest_degree) where
+  number_fits : (p : ℕ) → SFits w64 (multiplied_out ints s k p)
   number_fits p =
       within-sfits (within-* (within (pos (choose k p))) (within-pow (record { size = near }) (k - p)))
       (N.lt_of_le_of_lt (N.mul-le-mul (N.le_trans (choose-small k p) (N.pow-le-pow_right {n = 2} (omega arith) h)) (N.pow-le-pow_right {n = farthest} (omega arith) {i = k - p} {j = 4} (omega arith))) (omega arith))
@@ -59,7 +59,7 @@ module _ (s : ℤ) (near : nat_abs s ≤ farthest) (k : ℕ) (h : k ≤ highestD
       }
     where
       number : (i : ℕ) → i < 5 → get_or row i (pos 0) ≡ pos (choose k i)
-      number i d = ap (λ l. get_or l i (pos 0)) e ∙ getD-listed 5 (λ p. pos (choose k p)) i (pos 0) d
+      number i d = ap (λ l. get_or l i (pos 0)) e ∙ get_or-listed 5 (λ p. pos (choose k p)) i (pos 0) d
 
       none : (i : ℕ) → k ≤ i → pow s (k - i) ≡ pos 1
       none i b = let e : k - i ≡ 0 = omega arith in ap (pow s) e ∙ pow-zero s
@@ -74,7 +74,7 @@ module _ (s : ℤ) (near : nat_abs s ≤ farthest) (k : ℕ) (h : k ≤ highestD
         rw more
         (within-sfits (within-pow (record { size = near }) (k - (p - 1))) (N.lt_of_le_of_lt (N.pow-le-pow_right {n = farthest} (omega arith) {i = k - (p - 1)} {j = 4} (omega arith)) (omega arith)))
 
-    next : {row : List ℤ} {power : ℤ} {v w : ℤ} → Turn s k row power p → v ≡ multipliedOut ints s k (p - 1) → w ≡ pow s (k - (p - 1)) → Turn s k (set row (p - 1) v) w (p - 1)
+    next : {row : List ℤ} {power : ℤ} {v w : ℤ} → Turn s k row power p → v ≡ multiplied_out ints s k (p - 1) → w ≡ pow s (k - (p - 1)) → Turn s k (set row (p - 1) v) w (p - 1)
     next {row} {power} {v} t e g =
         record {
           few = omega arith;
@@ -84,7 +84,7 @@ module _ (s : ℤ) (near : nat_abs s ≤ farthest) (k : ℕ) (h : k ≤ highestD
           left = λ i d. get_or-set_other row (p - 1) i v (pos 0) (λ c. absurd (omega arith)) ∙ t.left i (omega arith);
         }
       where
-        pick : (i : ℕ) → p - 1 ≤ i → i < 5 → Dec (i ≡ p - 1) → get_or (set row (p - 1) v) i (pos 0) ≡ multipliedOut ints s k i
+        pick : (i : ℕ) → p - 1 ≤ i → i < 5 → Dec (i ≡ p - 1) → get_or (set row (p - 1) v) i (pos 0) ≡ multiplied_out ints s k i
         pick i d f (yes c) = rw c (get_or-set_same row (p - 1) v (pos 0) (omega (arith, t.five)) ∙ e)
         pick i d f (no c) = get_or-set_other row (p - 1) i v (pos 0) c ∙ t.done i (omega arith) f
 
@@ -142,7 +142,7 @@ loop-holds : tie.Need-loop-init invariant-loop decreases-loop
 unfolding binomials listed choose
 loop-holds c =
     let a = c.before in
-    first (s a) (near a) a.args.k a.requires.1 _ (getD-listed 5 binomials a.args.k [] (omega (arith, a.requires.1)))
+    first (s a) (near a) a.args.k a.requires.1 _ (get_or-listed 5 binomials a.args.k [] (omega (arith, a.requires.1)))
 
 sub-p : tie.Need-overflow-sub-p invariant-loop decreases-loop
 sub-p c = c.loop-test.true
@@ -179,8 +179,8 @@ returns c =
     let l = c.before.loop in
     let a = c.before.before.before in
     let e : l.p ≡ 0 = omega (arith, c.loop-test.false) in
-    sym (listed-is (pos 0) 5 (multipliedOut ints (s a) a.args.k) l.row l.invariant.five (λ i d. l.invariant.done i (omega arith) d))
-    ∙ ap (λ z. listed 5 (multipliedOut ints z a.args.k)) (to_z-of_z a.ranges.s)
+    sym (listed-is (pos 0) 5 (multiplied_out ints (s a) a.args.k) l.row l.invariant.five (λ i d. l.invariant.done i (omega arith) d))
+    ∙ ap (λ z. listed 5 (multiplied_out ints z a.args.k)) (to_z-of_z a.ranges.s)
 
 pub multiplied-row-spec : {M : Type 1} → statement M
 multiplied-row-spec =

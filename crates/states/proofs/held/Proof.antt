@@ -7,16 +7,16 @@ use lib.ListN.{length, take, length-set}
 use mir.Facts.{to_z-of_z}
 use Rattle.polynomials.specs.Sum.{listed}
 use Rattle.polynomials.proofs.Listed.{listed_more, listed-all}
-use Rattle.layout.specs.Numbers.{variablesRoom}
+use Rattle.layout.specs.Numbers.{variables_room}
 use Rattle.layout.specs.Reading.{readings}
 use Rattle.states.proofs.held.Statement.{statement}
 use Rattle.states.proofs.held.Tie as tie
 
 abbrev invariant-loop : tie.invariant-loop
-invariant-loop state held₀ i₀ held i = (i ≤ variablesRoom) × (length held ≡ variablesRoom) × (take i held ≡ listed i (readings state))
+invariant-loop state held₀ i₀ held i = (i ≤ variables_room) × (length held ≡ variables_room) × (take i held ≡ listed i (readings state))
 
 abbrev decreases-loop : tie.decreases-loop
-decreases-loop state held₀ i₀ held i = variablesRoom - i
+decreases-loop state held₀ i₀ held i = variables_room - i
 
 loop-holds : tie.Need-loop-init invariant-loop decreases-loop
 unfolding listed
@@ -50,7 +50,7 @@ loop-again c =
 returns : tie.Need-returns invariant-loop decreases-loop
 returns c =
     let l = c.before.loop in
-    listed-all l.held (readings c.before.before.args.state.now) l.i variablesRoom l.invariant.1 (omega (arith, l.invariant.0, c.loop-test.false)) l.invariant.2
+    listed-all l.held (readings c.before.before.args.state.now) l.i variables_room l.invariant.1 (omega (arith, l.invariant.0, c.loop-test.false)) l.invariant.2
 
 pub held_spec : {M : Type 1} → statement M
 held_spec =

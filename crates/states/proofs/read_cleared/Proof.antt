@@ -6,7 +6,7 @@ use lib.ListN.{length}
 use Rattle.polynomials.specs.Sum.{listed}
 use Rattle.polynomials.proofs.Listed.{length-listed}
 use Rattle.layout.specs.Shape.{shape}
-use Rattle.layout.specs.Reading.{readings, readNumber, readOutput}
+use Rattle.layout.specs.Reading.{readings, read_number, read_output}
 use Rattle.layout.specs.Many.{zeros}
 use Rattle.states.proofs.read_cleared.Statement.{statement}
 use Rattle.states.proofs.read_cleared.Tie as tie
@@ -38,7 +38,7 @@ returns c =
     let a = k.before.before in
     let S = shape a.args.model in
     let x = readings a.args.state in
-    (r.read-sound.ensures.0 ∙ ap (readNumber S a.args.table.now x) (cleared-is k), r.read-sound.ensures.1 ∙ ap (readOutput S a.args.table.now x) (cleared-is k))
+    (r.read-sound.ensures.0 ∙ ap (read_number S a.args.table.now x) (cleared-is k), r.read-sound.ensures.1 ∙ ap (read_output S a.args.table.now x) (cleared-is k))
 
 pub read-cleared-spec : {M : Type 1} → statement M
 read-cleared-spec = tie.close (tie.spec clear-requires read-sound-requires same_length returns)

@@ -7,9 +7,9 @@ use borrow.Rule.Slice.PartMut.{put_mid}
 use lib.ListN.{length, take, drop, set, length-drop}
 use lib.Seq.{length-take-le}
 use Rattle.layout.specs.Shape.{Shape, shape}
-use Rattle.layout.specs.Numbers.{variablesRoom}
-use Rattle.layout.specs.Reading.{readings, readNumber, readOutput}
-use Rattle.layout.specs.Many.{stateAt, zeros, number_at, outputAt}
+use Rattle.layout.specs.Numbers.{variables_room}
+use Rattle.layout.specs.Reading.{readings, read_number, read_output}
+use Rattle.layout.specs.Many.{state_at, zeros, number_at, output_at}
 use Rattle.layout.proofs.Fine.{few-variables}
 use Rattle.states.proofs.Each.{readings-held, Before, part_of, none_read, one_more, all_read}
 use Rattle.states.proofs.read_each.Statement.{statement}
@@ -17,7 +17,7 @@ use Rattle.states.proofs.read_each.Tie as tie
 
 abbrev invariant-loop : tie.invariant-loop
 invariant-loop model table states numbers₀ out₀ variables blocks from₀ at₀ k₀ numbers out from at k =
-    Before (shape model).variables (shape model).blocks (length numbers₀) (number_at (shape model) table states) (outputAt (shape model) table states) numbers out from at k
+    Before (shape model).variables (shape model).blocks (length numbers₀) (number_at (shape model) table states) (output_at (shape model) table states) numbers out from at k
 
 abbrev decreases-loop : tie.decreases-loop
 decreases-loop model table states numbers₀ out₀ variables blocks from₀ at₀ k₀ numbers out from at k = length numbers₀ - k
@@ -71,7 +71,7 @@ module _ (c : tie.In-loop invariant-loop decreases-loop) where
   room_fits : 8 * (at + blocks) < 2 ^ 63
   room_fits = omega (arith, room, c.before.loop.invariant.room, start.pre.room, start.good.1.1.1.1.0.1)
 
-  given-few : length (take (from + variables - from) (drop from start.args.states.now)) ≤ variablesRoom
+  given-few : length (take (from + variables - from) (drop from start.args.states.now)) ≤ variables_room
   given-few =
       omega
       (arith, length-take-le (from + variables - from) (drop from start.args.states.now) (omega (arith, given, length-drop from start.args.states.now)), variables-are, few-variables start.args.model)
@@ -148,15 +148,15 @@ loop-again c =
     let r = c.before.read-cleared in
     let l = d.before.loop in
     let count-is : from d + variables d - from d ≡ (S d).variables = omega (arith, variables-are d) in
-    let part-is : take (from d + variables d - from d) (drop (from d) a.args.states.now) ≡ stateAt (S d) a.args.states.now (k d) =
+    let part-is : take (from d + variables d - from d) (drop (from d) a.args.states.now) ≡ state_at (S d) a.args.states.now (k d) =
     ap₂ (λ m f. take m (drop f a.args.states.now)) count-is l.invariant.from_is
     in
-    let state-is : readings h.held.result ≡ readings (stateAt (S d) a.args.states.now (k d)) =
+    let state-is : readings h.held.result ≡ readings (state_at (S d) a.args.states.now (k d)) =
     ap readings h.held.ensures ∙ readings-held (take (from d + variables d - from d) (drop (from d) a.args.states.now)) (given-few d) ∙ ap readings part-is
     in
-    subst₂ (λ v b. Before (S d).variables (S d).blocks (n d) (number_at (S d) a.args.table.now a.args.states.now) (outputAt (S d) a.args.table.now a.args.states.now) (set l.numbers (k d) r.result) (put_mid (at d) (at d + b - at d) l.out r.new.1.1.1.0) (from d + v) (at d + b) (k d + 1)) (sym (variables-are d)) (sym (blocks-are d))
-    (one_more _ _ _ _ _ l.numbers l.out (from d) (at d) (k d) (there d) l.invariant r.result r.new.1.1.1.0 (r.ensures.0 ∙ ap (λ x. readNumber (S d) a.args.table.now x (zeros (S d))) state-is)
-    (r.ensures.1 ∙ ap (λ x. readOutput (S d) a.args.table.now x (zeros (S d))) state-is)
+    subst₂ (λ v b. Before (S d).variables (S d).blocks (n d) (number_at (S d) a.args.table.now a.args.states.now) (output_at (S d) a.args.table.now a.args.states.now) (set l.numbers (k d) r.result) (put_mid (at d) (at d + b - at d) l.out r.new.1.1.1.0) (from d + v) (at d + b) (k d + 1)) (sym (variables-are d)) (sym (blocks-are d))
+    (one_more _ _ _ _ _ l.numbers l.out (from d) (at d) (k d) (there d) l.invariant r.result r.new.1.1.1.0 (r.ensures.0 ∙ ap (λ x. read_number (S d) a.args.table.now x (zeros (S d))) state-is)
+    (r.ensures.1 ∙ ap (λ x. read_output (S d) a.args.table.now x (zeros (S d))) state-is)
     (r.auto.1.1.1.0 ∙ part-long d))
 
 same_length : tie.Need-same-length invariant-loop decreases-loop

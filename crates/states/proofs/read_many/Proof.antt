@@ -9,9 +9,9 @@ use borrow.Author.Tests.{eqb-true, not-true, not-false}
 use lib.Dec.{eqb}
 use lib.IntN.{ℤ}
 use lib.ListN.{length}
-use Rattle.layout.specs.Shape.{Shape, tableLength, shape}
+use Rattle.layout.specs.Shape.{Shape, table_length, shape}
 use Rattle.layout.specs.Refusals.{first, done}
-use Rattle.layout.specs.Many.{manyNumber, manyNumbers, manyOutput}
+use Rattle.layout.specs.Many.{many_number, many_numbers, many_output}
 use Rattle.layout.proofs.Fine.{well-formed, some-blocks}
 use Rattle.laws.proofs.Tests.{&&-both}
 use Rattle.laws.proofs.Many.{many-wrong-table, many-wrong-lengths, many-asked, many-kept, many-given}
@@ -40,10 +40,10 @@ module _ (a : tie.Start) where
   n = length numbers
 
   abbrev number : ℕ
-  number = manyNumber S t states numbers out
+  number = many_number S t states numbers out
 
   -- a refusal leaves both outputs as they were
-  refused : (r : ℕ) → number ≡ r → 0 < r → (r ≡ number) × ((numbers ≡ manyNumbers S t states numbers out) × (out ≡ manyOutput S t states numbers out))
+  refused : (r : ℕ) → number ≡ r → 0 < r → (r ≡ number) × ((numbers ≡ many_numbers S t states numbers out) × (out ≡ many_output S t states numbers out))
   refused r e h = let k = many-kept S t states numbers out e h in (sym e, (sym k.0, sym k.1))
 
 -- ---- what is known past each test
@@ -59,7 +59,7 @@ before-3 c = before-2 c.before.before.before
 abbrev before-4 : tie.Else4 → tie.Start
 before-4 c = before-3 c.before.before
 
-table-whole : (c : tie.Else1) → let a = before-1 c in length (t a) ≡ tableLength (S a)
+table-whole : (c : tie.Else1) → let a = before-1 c in length (t a) ≡ table_length (S a)
 table-whole c = c.if1.false ∙ c.before.table.ensures
 
 given_is : (c : tie.After-fits2) → let a = before-1 c.before.before in c.fits2.result ≡ eqb (length (states a)) ((S a).variables * n a)

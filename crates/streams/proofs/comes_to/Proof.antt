@@ -16,7 +16,7 @@ use types.Run.{OneOf}
 use borrow.Author.Tests.{leb-false, ne_eqb}
 use Rattle.streams.specs.declared.Outcome.{Outcome}
 use Rattle.streams.specs.declared.Outcome.TheVariants.{Moved, Again, Failed}
-use Rattle.streams.specs.Outcomes.{passes, outcomeOf}
+use Rattle.streams.specs.Outcomes.{passes, outcome_of}
 use Rattle.streams.proofs.comes_to.Statement.{statement}
 use Rattle.streams.proofs.comes_to.Tie as tie
 
@@ -24,11 +24,11 @@ not-below : (z : ℤ) → le_z (pos 0) z ≡ true → T (non_neg z)
 not-below (pos n) e = tt
 not-below (negsuc n) e = subst T (sym e) tt
 
-moved : (z error : ℤ) → le_z (pos 0) z ≡ true → Moved (nat_abs z) ≡ outcomeOf z error
+moved : (z error : ℤ) → le_z (pos 0) z ≡ true → Moved (nat_abs z) ≡ outcome_of z error
 moved (pos n) error e = refl
 moved (negsuc n) error e = absurd (subst T (sym e) tt)
 
-below : (z error : ℤ) → le_z (pos 0) z ≡ false → outcomeOf z error ≡ cond (passes error) Again Failed
+below : (z error : ℤ) → le_z (pos 0) z ≡ false → outcome_of z error ≡ cond (passes error) Again Failed
 below (pos n) error e = absurd (omega (arith, leb-false 0 n e))
 below (negsuc n) error e = refl
 
@@ -45,7 +45,7 @@ lasting (pos n) h = ap₂ ◌||◌ (ne_eqb n 4 (λ e. h (inl (ap (λ k. of_z w32
 lasting (negsuc n) h = refl
 
 -- an answer below 0, and what its error says
-failing : (answer : ℤ) {z : ℤ} → z ≡ answer → le_z (pos 0) z ≡ false → (error : ℤ) {b : _} → passes error ≡ b → cond b Again Failed ≡ outcomeOf answer error
+failing : (answer : ℤ) {z : ℤ} → z ≡ answer → le_z (pos 0) z ≡ false → (error : ℤ) {b : _} → passes error ≡ b → cond b Again Failed ≡ outcome_of answer error
 failing answer same left error told = sym (below answer error (subst (λ (x : ℤ). le_z (pos 0) x ≡ false) same left) ∙ ap (λ b. cond b Again Failed) told)
 
 cast-t4 : tie.Need-overflow-cast-t4
@@ -54,7 +54,7 @@ cast-t4 c = (not-below (to_z w64 (of_z w64 c.before.args.answer)) c.if1.true, Fi
 returns : tie.Need-returns
 returns c =
     let a = c.before.args in
-    moved (to_z w64 (of_z w64 a.answer)) a.error c.if1.true ∙ ap (λ (z : ℤ). outcomeOf z a.error) (to_z-of_z c.before.ranges.answer)
+    moved (to_z w64 (of_z w64 a.answer)) a.error c.if1.true ∙ ap (λ (z : ℤ). outcome_of z a.error) (to_z-of_z c.before.ranges.answer)
 
 returns-2 : tie.Need-returns-2
 returns-2 c =

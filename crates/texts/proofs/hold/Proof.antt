@@ -5,22 +5,22 @@ use mathlib.Core.Path.{◌≡◌, ap, sym}
 use Prim.Native.Nat.{ℕ, ◌+◌}
 use lib.Dec.{leb}
 use lib.ListN.{set}
-use Rattle.texts.specs.Held.{longestLine, heldAfter, lineAfter}
+use Rattle.texts.specs.Held.{longest_line, held_after, line_after}
 use borrow.Author.Rules.{rules}
 use borrow.Author.Tests.{le-leb, lt-leb}
 use Rattle.texts.proofs.hold.Statement.{statement}
 use Rattle.texts.proofs.hold.Tie as tie
 
 -- what is said of the line too long and of any other, by the test that the code makes
-said : (line : List ℕ) (held byte : ℕ) {b : Bool} → leb longestLine held ≡ b → (cond b (longestLine + 1) (held + 1) ≡ heldAfter held) × (cond b line (set line held byte) ≡ lineAfter line held byte)
+said : (line : List ℕ) (held byte : ℕ) {b : Bool} → leb longest_line held ≡ b → (cond b (longest_line + 1) (held + 1) ≡ held_after held) × (cond b line (set line held byte) ≡ line_after line held byte)
 said line held byte h =
-    (ap (λ b. cond b (longestLine + 1) (held + 1)) (sym h), ap (λ b. cond b line (set line held byte)) (sym h))
+    (ap (λ b. cond b (longest_line + 1) (held + 1)) (sym h), ap (λ b. cond b line (set line held byte)) (sym h))
 
 add-result : tie.Need-overflow-add-result
 add-result c = search rules
 
 returns : tie.Need-returns
-returns c = said c.before.args.line.now c.before.args.held c.before.args.byte (le-leb longestLine c.before.args.held c.if1.true)
+returns c = said c.before.args.line.now c.before.args.held c.before.args.byte (le-leb longest_line c.before.args.held c.if1.true)
 
 element-write-line : tie.Need-element-write-line
 element-write-line c = search rules
@@ -29,7 +29,7 @@ add-result-2 : tie.Need-overflow-add-result-2
 add-result-2 c = search rules
 
 returns-2 : tie.Need-returns-2
-returns-2 c = said c.before.args.line.now c.before.args.held c.before.args.byte (lt-leb longestLine c.before.args.held c.if1.false)
+returns-2 c = said c.before.args.line.now c.before.args.held c.before.args.byte (lt-leb longest_line c.before.args.held c.if1.false)
 
 pub hold-spec : {M : Type 1} → statement M
 hold-spec = tie.close (tie.spec add-result returns element-write-line add-result-2 returns-2)

@@ -1,12 +1,12 @@
 -- `texts::put_numbers` meets its contract: the end stays within the room. Assumes nothing.
 use Prim.Native.Nat.{◌≤◌, ◌-◌}
-use Rattle.texts.specs.Room.{answersRoom}
+use Rattle.texts.specs.Room.{answers_room}
 use borrow.Author.Rules.{rules}
 use Rattle.texts.proofs.put_numbers.Statement.{statement}
 use Rattle.texts.proofs.put_numbers.Tie as tie
 
 abbrev invariant-loop : tie.invariant-loop
-invariant-loop numbers from end out₀ at stop put₀ k₀ out put k = (put ≤ answersRoom)
+invariant-loop numbers from end out₀ at stop put₀ k₀ out put k = (put ≤ answers_room)
 
 abbrev decreases-loop : tie.decreases-loop
 decreases-loop numbers from end out₀ at stop put₀ k₀ out put k = stop - k

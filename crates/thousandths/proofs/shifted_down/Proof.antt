@@ -9,18 +9,18 @@ use mir.Syntax.{w64}
 use mir.Val.{SFits, to_z, of_z}
 use mir.Facts.{to_z-of_z}
 use borrow.Author.Rules.{rules}
-use Rattle.whole.specs.Down.{roundedDown}
+use Rattle.whole.specs.Down.{rounded_down}
 use Rattle.thousandths.proofs.shifted_down.Statement.{statement}
 use Rattle.thousandths.proofs.shifted_down.Tie as tie
 
-shift-down : (m : ℕ) (z : ℤ) → shr_z z m ≡ roundedDown m z
-unfolding roundedDown
+shift-down : (m : ℕ) (z : ℤ) → shr_z z m ≡ rounded_down m z
+unfolding rounded_down
 shift-down m (pos n) = refl
 shift-down m (negsuc n) = refl
 
 -- of a number below m, no divisor from m on leaves more than the sign
-far : (m n : ℕ) (z : ℤ) → mag z < m → m ≤ n → shr_z z m ≡ roundedDown n z
-unfolding roundedDown
+far : (m n : ℕ) (z : ℤ) → mag z < m → m ≤ n → shr_z z m ≡ rounded_down n z
+unfolding rounded_down
 far m n (pos k) h l = ap pos (div-eq_of_lt h ∙ sym (div-eq_of_lt (lt_of_lt_of_le h l)))
 far m n (negsuc k) h l = ap negsuc (div-eq_of_lt h ∙ sym (div-eq_of_lt (lt_of_lt_of_le h l)))
 

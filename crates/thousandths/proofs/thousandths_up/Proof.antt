@@ -9,9 +9,9 @@ use mir.Syntax.{w64}
 use mir.Val.{SFits}
 use mir.Facts.{to_z-of_z}
 use borrow.Author.Rules.{rules}
-use Rattle.whole.specs.Down.{thousand, roundedDown}
-use Rattle.whole.proofs.Magnitudes.{natAbs-+, natAbs--}
-use Rattle.whole.proofs.Machine.{natAbs-sfits, op-bits, op-back}
+use Rattle.whole.specs.Down.{thousand, rounded_down}
+use Rattle.whole.proofs.Magnitudes.{nat_abs-+, nat_abs--}
+use Rattle.whole.proofs.Machine.{nat_abs-sfits, op-bits, op-back}
 use Rattle.whole.proofs.Down.{down-size}
 use Rattle.thousandths.specs.Steps.{IsParts}
 use Rattle.thousandths.proofs.Up.{up-below, up_from}
@@ -43,13 +43,13 @@ module _ (c : tie.After-struct-known) where
   room = omega (arith, parts.few)
 
   fits : SFits w64 n
-  fits = natAbs-sfits n (omega (arith, room))
+  fits = nat_abs-sfits n (omega (arith, room))
 
   less-fits : SFits w64 (n -ℤ one)
-  less-fits = natAbs-sfits (n -ℤ one) (omega (arith, natAbs-- n (one), room))
+  less-fits = nat_abs-sfits (n -ℤ one) (omega (arith, nat_abs-- n (one), room))
 
 -- ---- what a shift leaves of it
-no-larger : (m : ℕ) (z r : ℤ) → r ≡ roundedDown m z → nat_abs r ≤ nat_abs z
+no-larger : (m : ℕ) (z r : ℤ) → r ≡ rounded_down m z → nat_abs r ≤ nat_abs z
 no-larger m z r e = subst (λ y. nat_abs y ≤ nat_abs z) (sym e) (down-size m z)
 
 module _ (c : tie.After-shifted-down) where
@@ -59,14 +59,14 @@ module _ (c : tie.After-shifted-down) where
   abbrev r : ℤ
   r = c.shifted_down.result
 
-  is : r ≡ roundedDown (2 ^ s p) (n p)
-  is = c.shifted_down.ensures ∙ ap (roundedDown (2 ^ s p)) (to_z-of_z (fits p))
+  is : r ≡ rounded_down (2 ^ s p) (n p)
+  is = c.shifted_down.ensures ∙ ap (rounded_down (2 ^ s p)) (to_z-of_z (fits p))
 
   r-fits : SFits w64 r
   r-fits = record { sfits = c.shifted_down.type-inv }
 
   turned-fits : SFits w64 (pos 0 -ℤ r)
-  turned-fits = natAbs-sfits (pos 0 -ℤ r) (omega (arith, natAbs-- (pos 0) r, no-larger (2 ^ s p) (n p) r is, room p))
+  turned-fits = nat_abs-sfits (pos 0 -ℤ r) (omega (arith, nat_abs-- (pos 0) r, no-larger (2 ^ s p) (n p) r is, room p))
 
 module _ (c : tie.After-shifted-down2) where
   abbrev p₂ : tie.After-struct-known
@@ -75,15 +75,15 @@ module _ (c : tie.After-shifted-down2) where
   abbrev r₂ : ℤ
   r₂ = c.shifted-down2.result
 
-  is₂ : r₂ ≡ roundedDown (2 ^ s p₂) (n p₂ -ℤ one)
-  is₂ = c.shifted-down2.ensures ∙ ap (roundedDown (2 ^ s p₂)) (op-back ◌-ℤ◌ (to_z-of_z (fits p₂)) (refl {a = one}) (less-fits p₂))
+  is₂ : r₂ ≡ rounded_down (2 ^ s p₂) (n p₂ -ℤ one)
+  is₂ = c.shifted-down2.ensures ∙ ap (rounded_down (2 ^ s p₂)) (op-back ◌-ℤ◌ (to_z-of_z (fits p₂)) (refl {a = one}) (less-fits p₂))
 
   r₂-fits : SFits w64 r₂
   r₂-fits = record { sfits = c.shifted-down2.type-inv }
 
   more-fits : SFits w64 (r₂ +ℤ one)
   more-fits =
-      natAbs-sfits (r₂ +ℤ one) (omega (arith, natAbs-+ r₂ (one), no-larger (2 ^ s p₂) (n p₂ -ℤ one) r₂ is₂, natAbs-- (n p₂) (one), room p₂))
+      nat_abs-sfits (r₂ +ℤ one) (omega (arith, nat_abs-+ r₂ (one), no-larger (2 ^ s p₂) (n p₂ -ℤ one) r₂ is₂, nat_abs-- (n p₂) (one), room p₂))
 
 -- ---- the needs
 parts-of-requires : tie.Need-parts-of-requires

@@ -14,13 +14,13 @@ use lib.IntN.{ℤ}
 use Rattle.answers.specs.declared.Reading.{Reading}
 use Rattle.answers.specs.declared.Fed.{Fed}
 use Rattle.answers.specs.Answers.{longest}
-use Rattle.answers.specs.Reading.{readingsAfter, answersOf, Feeding}
+use Rattle.answers.specs.Reading.{readings_after, answers_of, Feeding}
 use Rattle.answers.proofs.Program.{readings-append}
 use Rattle.trimcard.proofs.answer_piece.Statement.{statement}
 use Rattle.trimcard.proofs.answer_piece.Tie as tie
 
 abbrev invariant-loop : tie.invariant-loop
-invariant-loop table piece out₀ current₀ at₀ out current at = (at ≤ length piece) × (length out ≡ length out₀) × (current ≡ readingsAfter current₀ (take at piece))
+invariant-loop table piece out₀ current₀ at₀ out current at = (at ≤ length piece) × (length out ≡ length out₀) × (current ≡ readings_after current₀ (take at piece))
 
 abbrev decreases-loop : tie.decreases-loop
 decreases-loop table piece out₀ current₀ at₀ out current at = length piece - at
@@ -32,7 +32,7 @@ rest at piece = take_all (length piece - at) (drop at piece) (omega (arith, leng
 -- where the output has room for an answer, a byte is taken
 progress : {t : List ℤ} {r : Reading} {input out out' : List ℕ} (f : Fed) → Feeding t r input out out' f → 0 < length input → longest ≤ length out → (n : ℕ) → f.taken ≡ n → 0 < n
 progress {t = t} {r = r} {input = input} f g h l zero e =
-    absurd (omega (arith, g.full (omega (arith, e)), g.place ∙ ap (λ k. length (answersOf t r (take k input))) e, l))
+    absurd (omega (arith, g.full (omega (arith, e)), g.place ∙ ap (λ k. length (answers_of t r (take k input))) e, l))
 progress f g h l (suc n) e = omega arith
 
 loop-holds : tie.Need-loop-init invariant-loop decreases-loop
@@ -96,9 +96,9 @@ loop-again c =
       omega (arith, ap length part ∙ length-drop l.at a.piece.now, f.ensures.within, l.invariant.0),
       f.auto.1.1.1.0 ∙ l.invariant.1,
       f.ensures.reading
-          ∙ ap₂ (λ s bs. readingsAfter s (take f.result.taken bs)) l.invariant.2 part
+          ∙ ap₂ (λ s bs. readings_after s (take f.result.taken bs)) l.invariant.2 part
           ∙ sym (readings-append a.reading (take l.at a.piece.now) bytes)
-          ∙ ap (readingsAfter a.reading) (sym (take-add l.at f.result.taken a.piece.now)),
+          ∙ ap (readings_after a.reading) (sym (take-add l.at f.result.taken a.piece.now)),
     )
 
 same-length-2 : tie.Need-same-length-2 invariant-loop decreases-loop
@@ -108,7 +108,7 @@ returns-2 : tie.Need-returns-2 invariant-loop decreases-loop
 returns-2 c e =
     let a = c.before.before.before.before.args in
     let l = c.before.loop in
-    l.invariant.2 ∙ ap (readingsAfter a.reading) (take_all l.at a.piece.now c.loop-test.false)
+    l.invariant.2 ∙ ap (readings_after a.reading) (take_all l.at a.piece.now c.loop-test.false)
 
 pub answer-piece-spec : {M : Type 1} → statement M
 answer-piece-spec =

@@ -9,19 +9,19 @@ use lib.ListN.{length, get_or, set, length-set}
 use lib.Seq.{get_or-set_same, get_or-set_other}
 use Rattle.polynomials.specs.Ready.{Reached}
 use Rattle.polynomials.specs.declared.Reach.{Reach}
-use Rattle.layout.specs.Numbers.{reachesRoom}
-use Rattle.weights.specs.Ready.{reachIn}
+use Rattle.layout.specs.Numbers.{reaches_room}
+use Rattle.weights.specs.Ready.{reach_in}
 use Rattle.weights.proofs.all_reaches.Statement.{statement}
 use Rattle.weights.proofs.all_reaches.Tie as tie
 
 abbrev Right : List ℕ → List Reach → ℕ → Type 0
-Right sizes l j = ((reachIn l j).size ≡ get_or sizes j 0) × Reached (reachIn l j)
+Right sizes l j = ((reach_in l j).size ≡ get_or sizes j 0) × Reached (reach_in l j)
 
 abbrev invariant-loop : tie.invariant-loop
-invariant-loop sizes reaches₀ k₀ reaches k = (k ≤ reachesRoom) × (length reaches ≡ reachesRoom) × ((j : ℕ) → j < k → Right sizes reaches j)
+invariant-loop sizes reaches₀ k₀ reaches k = (k ≤ reaches_room) × (length reaches ≡ reaches_room) × ((j : ℕ) → j < k → Right sizes reaches j)
 
 abbrev decreases-loop : tie.decreases-loop
-decreases-loop sizes reaches₀ k₀ reaches k = reachesRoom - k
+decreases-loop sizes reaches₀ k₀ reaches k = reaches_room - k
 
 -- one reach more
 more : (sizes : List ℕ) (l : List Reach) (k : ℕ) (r : Reach) → k < length l → ((j : ℕ) → j < k → Right sizes l j) → (r.size ≡ get_or sizes k 0) × Reached r
@@ -72,7 +72,7 @@ loop-again c =
 returns : tie.Need-returns invariant-loop decreases-loop
 returns c =
     let l = c.before.loop in
-    let e : l.k ≡ reachesRoom = omega (arith, l.invariant.0, c.loop-test.false) in
+    let e : l.k ≡ reaches_room = omega (arith, l.invariant.0, c.loop-test.false) in
     record { long = l.invariant.1; same = λ k h. (l.invariant.2 k (omega arith)).0; reached = λ k h. (l.invariant.2 k (omega arith)).1 }
 
 pub all-reaches-spec : {M : Type 1} → statement M

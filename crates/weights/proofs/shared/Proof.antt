@@ -7,7 +7,7 @@ use borrow.Author.Rules.{rules}
 use lib.IntN.{ℤ}
 use lib.ListN.{length, drop}
 use Rattle.polynomials.specs.Order.{size}
-use Rattle.polynomials.specs.Groups.{weightOf, totalWeight}
+use Rattle.polynomials.specs.Groups.{weight_of, total_weight}
 use Rattle.polynomials.specs.Limits.{cap, against}
 use Rattle.polynomials.proofs.Cap.{against-within, against-passed, within-against, passed-against}
 use Rattle.layout.specs.declared.Kind.{Kind}
@@ -15,17 +15,17 @@ use Rattle.layout.specs.Shape.{Shape, shape, shared, shared_at}
 use Rattle.layout.specs.Blocks.{led, groups}
 use Rattle.layout.proofs.Fine.{FineKind, fine, fine-at, own-fine, two-groups, split, few-variables}
 use Rattle.laws.proofs.Walk.{at-kind}
-use Rattle.weights.specs.Ready.{highIn, GroupWeighable}
+use Rattle.weights.specs.Ready.{high_in, GroupWeighable}
 use Rattle.weights.proofs.Weighing.{Weighing, weighing-none, weighing-all, weighing-more, next-inside, next-weight}
 use Rattle.weights.proofs.shared.Statement.{statement}
 use Rattle.weights.proofs.shared.Tie as tie
 
 abbrev whole_of : Shape → List ℤ → ℕ → (ℕ → ℕ) → ℕ
-whole_of S t start r = totalWeight (groups (shared S) (drop (shared_at S start) t)) r
+whole_of S t start r = total_weight (groups (shared S) (drop (shared_at S start) t)) r
 
 abbrev invariant-loop : tie.invariant-loop
 invariant-loop model table start reaches at₀ sum₀ group₀ at sum group =
-    (group ≤ length (shape model).kinds) × Weighing (shape model) table (highIn reaches) (whole_of (shape model) table start (highIn reaches)) group at sum × (sum ≤ cap)
+    (group ≤ length (shape model).kinds) × Weighing (shape model) table (high_in reaches) (whole_of (shape model) table start (high_in reaches)) group at sum × (sum ≤ cap)
 
 abbrev decreases-loop : tie.decreases-loop
 decreases-loop model table start reaches at₀ sum₀ group₀ at sum group = length (shape model).kinds - group
@@ -38,12 +38,12 @@ module _ (c : tie.After-size invariant-loop decreases-loop) where
   place_is : entry.args.start + 2 * c.size.result ≡ shared_at (shape entry.args.model) entry.args.start
   place_is = omega (arith, c.size.ensures ∙ ap (λ (k : Kind). size k.degree) c.before.kind.ensures)
 
-  weighing-first : Weighing (shape entry.args.model) entry.args.table.now (highIn entry.args.reaches) (whole_of (shape entry.args.model) entry.args.table.now entry.args.start (highIn entry.args.reaches))
+  weighing-first : Weighing (shape entry.args.model) entry.args.table.now (high_in entry.args.reaches) (whole_of (shape entry.args.model) entry.args.table.now entry.args.start (high_in entry.args.reaches))
       2 (entry.args.start + 2 * c.size.result) 0
   weighing-first =
       let a = entry in
-      subst (λ n. Weighing (shape a.args.model) a.args.table.now (highIn a.args.reaches) (whole_of (shape a.args.model) a.args.table.now a.args.start (highIn a.args.reaches)) 2 n 0) (sym place_is)
-      (weighing-none (shape a.args.model) a.args.table.now (highIn a.args.reaches) (split a.args.model) a.args.start a.pre.inside)
+      subst (λ n. Weighing (shape a.args.model) a.args.table.now (high_in a.args.reaches) (whole_of (shape a.args.model) a.args.table.now a.args.start (high_in a.args.reaches)) 2 n 0) (sym place_is)
+      (weighing-none (shape a.args.model) a.args.table.now (high_in a.args.reaches) (split a.args.model) a.args.start a.pre.inside)
 
 -- ---- the group that is weighed
 module _ (c : tie.After-kind2 invariant-loop decreases-loop) where
@@ -60,7 +60,7 @@ module _ (c : tie.After-kind2 invariant-loop decreases-loop) where
   t = start.args.table.now
 
   abbrev r : ℕ → ℕ
-  r = highIn start.args.reaches
+  r = high_in start.args.reaches
 
   abbrev k : Kind
   k = c.kind2.result
@@ -78,7 +78,7 @@ module _ (c : tie.After-kind2 invariant-loop decreases-loop) where
   whole = whole_of S t start.args.start r
 
   abbrev this : ℕ
-  this = weightOf (led k (drop at t)) r
+  this = weight_of (led k (drop at t)) r
 
   below : g < length S.kinds
   below = omega (arith, c.before.if1.true, c.before.before.groups.ensures)
@@ -183,7 +183,7 @@ returns-3 c =
     let l = c.before.before in
     let a = entry l.before in
     against-within _ l.loop.invariant.2
-    ∙ ap against (weighing-all (shape a.args.model) a.args.table.now (highIn a.args.reaches) _ l.loop.group l.loop.at l.loop.sum l.loop.invariant.1 (omega (arith, c.if1.false, c.before.groups.ensures)))
+    ∙ ap against (weighing-all (shape a.args.model) a.args.table.now (high_in a.args.reaches) _ l.loop.group l.loop.at l.loop.sum l.loop.invariant.1 (omega (arith, c.if1.false, c.before.groups.ensures)))
 
 pub shared-spec : {M : Type 1} → statement M
 shared-spec =

@@ -9,13 +9,13 @@ use lib.ListN.{take, drop, length-take}
 use mathlib.Core.List.{List}
 use Rattle.polynomials.specs.Order.{size}
 use Rattle.polynomials.specs.Group.{weight}
-use Rattle.polynomials.specs.Groups.{weightOf}
+use Rattle.polynomials.specs.Groups.{weight_of}
 use Rattle.polynomials.specs.Limits.{against}
 use Rattle.polynomials.specs.Ready.{Weighable}
 use Rattle.polynomials.specs.declared.Reach.{Reach}
 use Rattle.layout.specs.declared.Kind.{Kind}
 use Rattle.layout.specs.Blocks.{led}
-use Rattle.weights.specs.Ready.{reachIn, highIn, GroupWeighable}
+use Rattle.weights.specs.Ready.{reach_in, high_in, GroupWeighable}
 use Rattle.weights.proofs.weight_of.Statement.{statement}
 use Rattle.weights.proofs.weight_of.Tie as tie
 
@@ -27,7 +27,7 @@ module _ (t : List ℤ) (at : ℕ) (k : Kind) (l : List Reach) (ready : GroupWei
   count-is : at + n - at ≡ size k.degree
   count-is = omega (arith, e)
 
-  weighable : Weighable group k.degree (reachIn l (k.u + 1)) (reachIn l (k.v + 1))
+  weighable : Weighable group k.degree (reach_in l (k.u + 1)) (reach_in l (k.v + 1))
   weighable =
       record {
         few = omega (arith, length-take (at + n - at) (drop at t), count-is);
@@ -36,8 +36,8 @@ module _ (t : List ℤ) (at : ℕ) (k : Kind) (l : List Reach) (ready : GroupWei
         second = ready.reached (k.v + 1) (omega (arith, ready.second));
       }
 
-  is-weight : weight group (reachIn l (k.u + 1)).size (reachIn l (k.v + 1)).size ≡ weightOf (led k (drop at t)) (highIn l)
-  is-weight = λ i. weight (take (count-is i) (drop at t)) (reachIn l (add-one k.u i)).size (reachIn l (add-one k.v i)).size
+  is-weight : weight group (reach_in l (k.u + 1)).size (reach_in l (k.v + 1)).size ≡ weight_of (led k (drop at t)) (high_in l)
+  is-weight = λ i. weight (take (count-is i) (drop at t)) (reach_in l (add-one k.u i)).size (reach_in l (add-one k.v i)).size
 
 add-u : tie.Need-overflow-add-u
 add-u c = search rules

@@ -14,35 +14,35 @@ use lib.IntN.{ℤ}
 use lib.ListN.{length, take, drop, length-take}
 use Rattle.polynomials.specs.Order.{size}
 use Rattle.polynomials.specs.Group.{weight}
-use Rattle.polynomials.specs.Groups.{totalWeight}
-use Rattle.polynomials.specs.Downward.{rowWeight}
+use Rattle.polynomials.specs.Groups.{total_weight}
+use Rattle.polynomials.specs.Downward.{row_weight}
 use Rattle.polynomials.specs.Limits.{cap, against}
 use Rattle.polynomials.specs.Ready.{Reached}
 use Rattle.polynomials.specs.declared.Reach.{Reach}
 use Rattle.polynomials.proofs.Cap.{within-against, passed-against, within-joint, passed-joint}
-use Rattle.polynomials.proofs.DownwardBounds.{rowsWeight, rows_none, rows_more, rows-part, rows_all}
+use Rattle.polynomials.proofs.DownwardBounds.{rows_weight, rows_none, rows_more, rows-part, rows_all}
 use Rattle.layout.specs.declared.Kind.{Kind}
 use Rattle.layout.specs.declared.Model.{Model}
-use Rattle.layout.specs.Shape.{Shape, blockLength, blockStart, shape, own, shared, own_at, shared_at}
+use Rattle.layout.specs.Shape.{Shape, block_length, block_start, shape, own, shared, own_at, shared_at}
 use Rattle.layout.specs.Limits.{every}
 use Rattle.layout.specs.Blocks.{groups}
-use Rattle.layout.specs.Sound.{withinCap}
-use Rattle.layout.specs.Reaches.{reachesOf}
+use Rattle.layout.specs.Sound.{within_cap}
+use Rattle.layout.specs.Reaches.{reaches_of}
 use Rattle.laws.proofs.Tests.{every-none, every_more, every-stops, every-ext}
 use Rattle.layout.proofs.Fine.{FineKind, split, two-groups, own-fine, inside, few-variables, few-table}
 use Rattle.laws.proofs.Own.{own-inside}
-use Rattle.weights.specs.Ready.{reachIn, highIn, Measured}
-use Rattle.weights.proofs.Weighing.{ownWeight, bothWeight, coefficient-weight}
+use Rattle.weights.specs.Ready.{reach_in, high_in, Measured}
+use Rattle.weights.proofs.Weighing.{own_weight, both_weight, coefficient-weight}
 use Rattle.weights.proofs.within_cap.Statement.{statement}
 use Rattle.weights.proofs.within_cap.Tie as tie
 
 -- the weight of a coefficient is within the cap
 abbrev fits : Shape → List ℤ → List Reach → ℕ → ℕ → Bool
-fits S t l b n = leb (ownWeight S t l b n + bothWeight S t l b) cap
+fits S t l b n = leb (own_weight S t l b n + both_weight S t l b) cap
 
 abbrev invariant-loop2 : tie.invariant-loop2
 invariant-loop2 model table reaches size degree rows second v blocks ok₀ block start both piece u from to group sum₀ row₀ ok sum row =
-    (row ≤ degree + 1) × (sum ≡ rowsWeight degree group u.size v.size (degree + 1 - row)) × (ok ≡ true)
+    (row ≤ degree + 1) × (sum ≡ rows_weight degree group u.size v.size (degree + 1 - row)) × (ok ≡ true)
 
 abbrev decreases-loop2 : tie.decreases-loop2
 decreases-loop2 model table reaches size degree rows second v blocks ok₀ block start both piece u from to group sum₀ row₀ ok sum row = degree + 1 - row
@@ -91,7 +91,7 @@ module _ (a : tie.After-blocks3 invariant-loop2 decreases-loop2 invariant-loop d
   n = a.before.before.before.size.result
 
   abbrev v : Reach
-  v = reachIn reaches (k.v + 1)
+  v = reach_in reaches (k.v + 1)
 
   measured : Measured sizes reaches
   measured = a.before.before.before.before.before.all-reaches.ensures
@@ -108,65 +108,65 @@ module _ (a : tie.After-blocks3 invariant-loop2 decreases-loop2 invariant-loop d
   v-reached : Reached v
   v-reached = measured.reached (k.v + 1) (omega (arith, k-fine.second, few-variables model))
 
-  v-is : v.size ≡ highIn reaches (own S).v
-  v-is = ap (λ i. (reachIn reaches i).size) (add-one k.v) ∙ ap (λ (k : Kind). highIn reaches k.v) own_is
+  v-is : v.size ≡ high_in reaches (own S).v
+  v-is = ap (λ i. (reach_in reaches i).size) (add-one k.v) ∙ ap (λ (k : Kind). high_in reaches k.v) own_is
 
   -- what a coefficient weighs: in the piece's own group, in what the pieces share, and in all
   abbrev own_of : ℕ → ℕ → ℕ
-  own_of = ownWeight S table reaches
+  own_of = own_weight S table reaches
 
-  abbrev bothOf : ℕ → ℕ
-  bothOf = bothWeight S table reaches
+  abbrev both_of : ℕ → ℕ
+  both_of = both_weight S table reaches
 
   abbrev all : ℕ → ℕ → ℕ
-  all b p = own_of b p + bothOf b
+  all b p = own_of b p + both_of b
 
-  abbrev blockFits : ℕ → Bool
-  blockFits b = every 2 (fits S table reaches b)
+  abbrev block_fits : ℕ → Bool
+  block_fits b = every 2 (fits S table reaches b)
 
-  asked : withinCap S table (reachesOf sizes) ≡ every S.blocks blockFits
-  unfolding withinCap
+  asked : within_cap S table (reaches_of sizes) ≡ every S.blocks block_fits
+  unfolding within_cap
   asked = every-ext S.blocks _ _ (λ b hb. every-ext 2 _ _ (λ p hp. ap (λ m. leb m cap) (coefficient-weight sizes reaches measured model table b p hp)))
 
   -- one that is past the cap
-  past : (b p : ℕ) → b < S.blocks → p < 2 → cap < all b p → false ≡ withinCap S table (reachesOf sizes)
-  past b p hb hp h = sym (asked ∙ every-stops S.blocks blockFits b hb (every-stops 2 (fits S table reaches b) p hp (lt-leb (all b p) cap h)))
+  past : (b p : ℕ) → b < S.blocks → p < 2 → cap < all b p → false ≡ within_cap S table (reaches_of sizes)
+  past b p hb hp h = sym (asked ∙ every-stops S.blocks block_fits b hb (every-stops 2 (fits S table reaches b) p hp (lt-leb (all b p) cap h)))
 
-  long : (b : ℕ) → b < S.blocks → blockStart S b + blockLength S ≤ length table
+  long : (b : ℕ) → b < S.blocks → block_start S b + block_length S ≤ length table
   long b h = omega (arith, inside S b h, entry.pre.whole)
 
 -- ════ at a block: what its pieces share
 module _ (c : tie.After-start invariant-loop2 decreases-loop2 invariant-loop decreases-loop invariant-blocks2 decreases-blocks2) where
-  abbrev atBlocks : tie.At-blocks2 invariant-loop2 decreases-loop2 invariant-loop decreases-loop invariant-blocks2 decreases-blocks2
-  atBlocks = c.before.before
+  abbrev at_blocks : tie.At-blocks2 invariant-loop2 decreases-loop2 invariant-loop decreases-loop invariant-blocks2 decreases-blocks2
+  at_blocks = c.before.before
 
   abbrev ready : tie.After-blocks3 invariant-loop2 decreases-loop2 invariant-loop decreases-loop invariant-blocks2 decreases-blocks2
-  ready = atBlocks.before
+  ready = at_blocks.before
 
   abbrev block : ℕ
-  block = atBlocks.blocks2.block
+  block = at_blocks.blocks2.block
 
   below : block < (S ready).blocks
   below = omega (arith, c.before.blocks2-test.true, ready.blocks3.ensures)
 
-shared-weight : (c : tie.After-shared invariant-loop2 decreases-loop2 invariant-loop decreases-loop invariant-blocks2 decreases-blocks2) → let d = c.before in c.shared.result ≡ against (bothOf (ready d) (block d))
+shared-weight : (c : tie.After-shared invariant-loop2 decreases-loop2 invariant-loop decreases-loop invariant-blocks2 decreases-blocks2) → let d = c.before in c.shared.result ≡ against (both_of (ready d) (block d))
 shared-weight c =
     let d = c.before in
-    c.shared.ensures ∙ ap (λ m. against (totalWeight (groups (shared (S (ready d))) (drop (shared_at (S (ready d)) m) (table (ready d)))) (highIn (reaches (ready d))))) d.start.ensures
+    c.shared.ensures ∙ ap (λ m. against (total_weight (groups (shared (S (ready d))) (drop (shared_at (S (ready d)) m) (table (ready d)))) (high_in (reaches (ready d))))) d.start.ensures
 
-shared-is : (c : tie.After-known-told invariant-loop2 decreases-loop2 invariant-loop decreases-loop invariant-blocks2 decreases-blocks2) → let d = c.before.before.before.before in (c.before.both.given.0.0 ≡ bothOf (ready d) (block d)) × (bothOf (ready d) (block d) ≤ cap)
+shared-is : (c : tie.After-known-told invariant-loop2 decreases-loop2 invariant-loop decreases-loop invariant-blocks2 decreases-blocks2) → let d = c.before.before.before.before in (c.before.both.given.0.0 ≡ both_of (ready d) (block d)) × (both_of (ready d) (block d) ≤ cap)
 shared-is c =
     let s = c.before.before.before in
     let d = s.before in
-    within-against c.before.both.given.0.0 (bothOf (ready d) (block d)) (sym c.before.both.given.1 ∙ shared-weight s)
+    within-against c.before.both.given.0.0 (both_of (ready d) (block d)) (sym c.before.both.given.1 ∙ shared-weight s)
 
 -- ════ at a piece: its own group and the rows of it
 module _ (g : tie.After-u invariant-loop2 decreases-loop2 invariant-loop decreases-loop invariant-blocks2 decreases-blocks2) where
-  abbrev atPieces : tie.At-loop invariant-loop2 decreases-loop2 invariant-loop decreases-loop invariant-blocks2 decreases-blocks2
-  atPieces = g.before.before
+  abbrev at_pieces : tie.At-loop invariant-loop2 decreases-loop2 invariant-loop decreases-loop invariant-blocks2 decreases-blocks2
+  at_pieces = g.before.before
 
   abbrev told : tie.After-known-told invariant-loop2 decreases-loop2 invariant-loop decreases-loop invariant-blocks2 decreases-blocks2
-  told = atPieces.before
+  told = at_pieces.before
 
   abbrev started : tie.After-start invariant-loop2 decreases-loop2 invariant-loop decreases-loop invariant-blocks2 decreases-blocks2
   started = told.before.before.before.before
@@ -178,10 +178,10 @@ module _ (g : tie.After-u invariant-loop2 decreases-loop2 invariant-loop decreas
   b = block started
 
   abbrev p : ℕ
-  p = atPieces.loop.piece
+  p = at_pieces.loop.piece
 
   abbrev u : Reach
-  u = reachIn (reaches here) p
+  u = reach_in (reaches here) p
 
   abbrev from : ℕ
   from = started.start.result + n here * p
@@ -199,7 +199,7 @@ module _ (g : tie.After-u invariant-loop2 decreases-loop2 invariant-loop decreas
   count-is : from + n here - from ≡ size degree
   count-is = omega (arith, size_is here)
 
-  from_is : from ≡ own_at (S here) (blockStart (S here) b) p
+  from_is : from ≡ own_at (S here) (block_start (S here) b) p
   from_is = omega (arith, started.start.ensures, ap (λ m. m * p) (size_is here ∙ ap (λ (k : Kind). size k.degree) (own_is here)))
 
   few : length group ≤ size degree
@@ -210,7 +210,7 @@ module _ (g : tie.After-u invariant-loop2 decreases-loop2 invariant-loop decreas
 
   -- the rows from a power on
   abbrev rest : ℕ → ℕ
-  rest = rowsWeight degree group u.size (v here).size
+  rest = rows_weight degree group u.size (v here).size
 
   whole_is : weight group u.size (v here).size ≡ own_of here b p
   whole_is =
@@ -230,28 +230,28 @@ module _ (g : tie.After-u invariant-loop2 decreases-loop2 invariant-loop decreas
 
 -- ════ at a row: the sum with one row more
 module _ (c : tie.After-add-row invariant-loop2 decreases-loop2 invariant-loop decreases-loop invariant-blocks2 decreases-blocks2) where
-  abbrev atRows : tie.At-loop2 invariant-loop2 decreases-loop2 invariant-loop decreases-loop invariant-blocks2 decreases-blocks2
-  atRows = c.before.before
+  abbrev at_rows : tie.At-loop2 invariant-loop2 decreases-loop2 invariant-loop decreases-loop invariant-blocks2 decreases-blocks2
+  at_rows = c.before.before
 
   abbrev lent : tie.After-u invariant-loop2 decreases-loop2 invariant-loop decreases-loop invariant-blocks2 decreases-blocks2
-  lent = atRows.before.before
+  lent = at_rows.before.before
 
   abbrev q : ℕ
-  q = degree lent - atRows.loop2.row
+  q = degree lent - at_rows.loop2.row
 
   abbrev row : ℕ
-  row = rowWeight (degree lent) (group lent) (u lent).size q
+  row = row_weight (degree lent) (group lent) (u lent).size q
 
   abbrev product : ℕ
-  product = atRows.loop2.sum * (v (here lent)).size
+  product = at_rows.loop2.sum * (v (here lent)).size
 
-  below-degree : atRows.loop2.row ≤ degree lent
+  below-degree : at_rows.loop2.row ≤ degree lent
   below-degree = omega (arith, c.before.loop2-test.true)
 
   more-is : product + row ≡ rest lent q
   more-is =
-      let u : degree lent + 1 - atRows.loop2.row ≡ q + 1 = omega (arith, below-degree) in
-      rows_more (degree lent) (group lent) (reachIn (reaches (here lent)) (p lent)).size (v (here lent)).size q (omega arith) (atRows.loop2.inv.1 ∙ ap (rest lent) u)
+      let u : degree lent + 1 - at_rows.loop2.row ≡ q + 1 = omega (arith, below-degree) in
+      rows_more (degree lent) (group lent) (reach_in (reaches (here lent)) (p lent)).size (v (here lent)).size q (omega arith) (at_rows.loop2.inv.1 ∙ ap (rest lent) u)
 
 all-reaches-requires : tie.Need-all-reaches-requires invariant-loop2 decreases-loop2 invariant-loop decreases-loop invariant-blocks2 decreases-blocks2
 all-reaches-requires c κs = search rules
@@ -351,7 +351,7 @@ loop2-less c = search rules
 loop2-again : tie.Need-loop2-preserved invariant-loop2 decreases-loop2 invariant-loop decreases-loop invariant-blocks2 decreases-blocks2
 loop2-again c =
     let d = c.before.before.before in
-    let u : q d ≡ degree (lent d) + 1 - ((atRows d).loop2.row + 1) = omega (arith, below-degree d) in
+    let u : q d ≡ degree (lent d) + 1 - ((at_rows d).loop2.row + 1) = omega (arith, below-degree d) in
     (omega (arith, below-degree d), within-joint (product d) (row d) c.before.more.given.0.0 (sym c.before.more.given.1 ∙ d.add_row.ensures) ∙ more-is d ∙ ap (rest (lent d)) u, search rules)
 
 sub-if1 : tie.Need-overflow-sub-if1 invariant-loop2 decreases-loop2 invariant-loop decreases-loop invariant-blocks2 decreases-blocks2
@@ -375,7 +375,7 @@ loop-again c =
     let g = c.before.before.before.before in
     let k = shared-is (told g) in
     let h : all (here g) (b g) (p g) ≤ cap = omega (arith, rows_are c.before, k.0, k.1, c.if1.false) in
-    (omega (arith, half g), every_more (p g) _ (atPieces g).loop.invariant.1 (le-leb _ _ h), search rules)
+    (omega (arith, half g), every_more (p g) _ (at_pieces g).loop.invariant.1 (le-leb _ _ h), search rules)
 
 add-block : tie.Need-overflow-add-block invariant-loop2 decreases-loop2 invariant-loop decreases-loop invariant-blocks2 decreases-blocks2
 add-block c = search rules
@@ -390,7 +390,7 @@ blocks2-again c =
     let a = ready d in
     let u : p.piece ≡ 2 = omega (arith, p.invariant.0, c.loop-test.false) in (
       omega (arith, below d),
-      every_more (block d) _ (atBlocks d).blocks2.invariant.1 (subst (λ m. every m (fits (S a) (table a) (reaches a) (block d)) ≡ true) u p.invariant.1),
+      every_more (block d) _ (at_blocks d).blocks2.invariant.1 (subst (λ m. every m (fits (S a) (table a) (reaches a) (block d)) ≡ true) u p.invariant.1),
       search rules,
     )
 
@@ -398,13 +398,13 @@ returns : tie.Need-returns invariant-loop2 decreases-loop2 invariant-loop decrea
 returns c =
     let l = c.before in
     let u : l.blocks2.block ≡ (S l.before).blocks = omega (arith, l.blocks2.invariant.0, c.blocks2-test.false, l.before.blocks3.ensures) in
-    l.blocks2.invariant.2 ∙ sym (asked l.before ∙ subst (λ m. every m (blockFits l.before) ≡ true) u l.blocks2.invariant.1)
+    l.blocks2.invariant.2 ∙ sym (asked l.before ∙ subst (λ m. every m (block_fits l.before) ≡ true) u l.blocks2.invariant.1)
 
 returns-2 : tie.Need-returns-2 invariant-loop2 decreases-loop2 invariant-loop decreases-loop invariant-blocks2 decreases-blocks2
 returns-2 c =
     let s = c.before.before in
     let d = s.before in
-    let h : cap < bothOf (ready d) (block d) = passed-against _ (sym c.enum_told.given.1 ∙ shared-weight s) in
+    let h : cap < both_of (ready d) (block d) = passed-against _ (sym c.enum_told.given.1 ∙ shared-weight s) in
     past (ready d) (block d) 0 (below d) (omega arith) (omega arith)
 
 returns-3 : tie.Need-returns-3 invariant-loop2 decreases-loop2 invariant-loop decreases-loop invariant-blocks2 decreases-blocks2

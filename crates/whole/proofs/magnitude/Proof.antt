@@ -11,7 +11,7 @@ use mir.Val.{SFits}
 use mir.Facts.{to_z-of_z, sfits_lit, Fits-nat_abs}
 use borrow.Author.Rules.{rules}
 use Rattle.whole.proofs.Identity.{quote, quote-pos, ring1}
-use Rattle.whole.proofs.Linear.{zarith, quote-natAbs}
+use Rattle.whole.proofs.Linear.{zarith, quote-nat_abs}
 use Rattle.whole.proofs.Machine.{lt-taken, lt-left, sfits-bound}
 use Rattle.whole.proofs.magnitude.Statement.{statement}
 use Rattle.whole.proofs.magnitude.Tie as tie
@@ -22,11 +22,11 @@ more-fits x = ring1 x (λ ρ e. simp (quote, quote-pos ρ, e) (omega zarith))
 turned-fits : (x : ℤ) → SFits w64 x → x <ℤ pos 0 → SFits w64 (pos 0 -ℤ (x +ℤ pos 1))
 turned-fits x = ring1 x (λ ρ e. simp (quote, quote-pos ρ, e) (omega zarith))
 
-turned-nonNeg : (x : ℤ) → x <ℤ pos 0 → T (non_neg (pos 0 -ℤ (x +ℤ pos 1)))
-turned-nonNeg x = ring1 x (λ ρ e. simp (quote, quote-pos ρ, e) (omega zarith))
+turned-non_neg : (x : ℤ) → x <ℤ pos 0 → T (non_neg (pos 0 -ℤ (x +ℤ pos 1)))
+turned-non_neg x = ring1 x (λ ρ e. simp (quote, quote-pos ρ, e) (omega zarith))
 
 turned-size : (x : ℤ) → x <ℤ pos 0 → nat_abs (pos 0 -ℤ (x +ℤ pos 1)) + 1 ≡ nat_abs x
-turned-size x = ring1 x (λ ρ e. simp (quote, quote-pos ρ, e, quote-natAbs) (omega zarith))
+turned-size x = ring1 x (λ ρ e. simp (quote, quote-pos ρ, e, quote-nat_abs) (omega zarith))
 
 -- what is known where x is below 0
 module _ (c : tie.Then1) where
@@ -54,7 +54,7 @@ sub-result c = simp (to_z-of_z, fits-x c, fits_more c) (fits-turned c)
 cast-result : tie.Need-overflow-cast-result
 cast-result c =
     simp (to_z-of_z, fits-x c, fits_more c, fits-turned c)
-    (turned-nonNeg c.before.args.x (below c), Fits-nat_abs tt (fits-turned c))
+    (turned-non_neg c.before.args.x (below c), Fits-nat_abs tt (fits-turned c))
 
 add-result-2 : tie.Need-overflow-add-result-2
 add-result-2 c =

@@ -8,9 +8,9 @@ use lib.Signed.{quot_z, ◌≤ℤ◌, ◌<ℤ◌}
 use mir.Syntax.{w64}
 use mir.Val.{SFits, to_z, of_z}
 use mir.Facts.{to_z-of_z, sfits_lit}
-use Rattle.whole.specs.Nearest.{nearestAway}
-use Rattle.whole.proofs.Magnitudes.{natAbs-+, natAbs--}
-use Rattle.whole.proofs.Machine.{natAbs-sfits, sfits-bound, op-bits, op-back, lt-taken, lt-left}
+use Rattle.whole.specs.Nearest.{nearest_away}
+use Rattle.whole.proofs.Magnitudes.{nat_abs-+, nat_abs--}
+use Rattle.whole.proofs.Machine.{nat_abs-sfits, sfits-bound, op-bits, op-back, lt-taken, lt-left}
 use Rattle.whole.proofs.Order.{lt_out}
 use Rattle.whole.proofs.Nearest.{nearest-size, cut_below, cut-above}
 use Rattle.whole.proofs.nearest_away.Statement.{statement}
@@ -38,18 +38,18 @@ module _ (c : tie.Start) where
   bits = rw (positive c.args.m c.requires.0).0 above
 
   half-fits : SFits w64 (pos (m / 2))
-  half-fits = natAbs-sfits (pos (m / 2)) (omega (arith, c.requires.1))
+  half-fits = nat_abs-sfits (pos (m / 2)) (omega (arith, c.requires.1))
 
   half_is : to_z w64 (of_z w64 (quot_z (to_z w64 (of_z w64 c.args.m)) (pos 2))) ≡ pos (m / 2)
   half_is = op-back quot_z divisor-is (refl {a = pos 2}) half-fits
 
-  small : nat_abs (nearestAway m z) < 2 ^ 63
+  small : nat_abs (nearest_away m z) < 2 ^ 63
   small = N.lt_of_le_of_lt (nearest-size m above z (nat_abs z) (omega (arith, N.mul-le-mul_right (nat_abs z) above, N.one-mul (nat_abs z)))) (omega (arith, c.requires.1))
 
   -- on either side of 0
-  module _ (op : ℤ → ℤ → ℤ) (f : nat_abs (op z (pos (m / 2))) ≤ nat_abs z + m / 2) (e : quot_z (op z (pos (m / 2))) (pos m) ≡ nearestAway m z) where
+  module _ (op : ℤ → ℤ → ℤ) (f : nat_abs (op z (pos (m / 2))) ≤ nat_abs z + m / 2) (e : quot_z (op z (pos (m / 2))) (pos m) ≡ nearest_away m z) where
     fits : SFits w64 (op z (pos (m / 2)))
-    fits = natAbs-sfits _ (omega (arith, f, c.requires.1))
+    fits = nat_abs-sfits _ (omega (arith, f, c.requires.1))
 
     sum_fits : SFits w64 (op (to_z w64 (of_z w64 z)) (to_z w64 (of_z w64 (quot_z (to_z w64 (of_z w64 c.args.m)) (pos 2)))))
     sum_fits = op-bits op (to_z-of_z c.ranges.z) half_is fits
@@ -58,45 +58,45 @@ module _ (c : tie.Start) where
     sum_is = op-back op (to_z-of_z c.ranges.z) half_is fits
 
     result_fits : SFits w64 (quot_z (op z (pos (m / 2))) (pos m))
-    result_fits = subst (SFits w64) (sym e) (natAbs-sfits _ small)
+    result_fits = subst (SFits w64) (sym e) (nat_abs-sfits _ small)
 
-below : (c : tie.Then1) → quot_z (z c.before -ℤ pos (m c.before / 2)) (pos (m c.before)) ≡ nearestAway (m c.before) (z c.before)
+below : (c : tie.Then1) → quot_z (z c.before -ℤ pos (m c.before / 2)) (pos (m c.before)) ≡ nearest_away (m c.before) (z c.before)
 below c = cut_below _ (z c.before) (lt-taken c.before.ranges.z (sfits_lit tt) c.if1.true)
 
-from_zero : (c : tie.Else1) → quot_z (z c.before +ℤ pos (m c.before / 2)) (pos (m c.before)) ≡ nearestAway (m c.before) (z c.before)
+from_zero : (c : tie.Else1) → quot_z (z c.before +ℤ pos (m c.before / 2)) (pos (m c.before)) ≡ nearest_away (m c.before) (z c.before)
 from_zero c = cut-above _ (z c.before) (lt-left c.before.ranges.z (sfits_lit tt) c.if1.false)
 
 div-half : tie.Need-nonzero-div-half
 div-half c = (omega arith, op-bits quot_z (divisor-is c) (refl {a = pos 2}) (half-fits c))
 
 sub-result : tie.Need-overflow-sub-result
-sub-result c = let s = c.before in sum_fits s ◌-ℤ◌ (natAbs-- (z s) (pos (m s / 2))) (below c)
+sub-result c = let s = c.before in sum_fits s ◌-ℤ◌ (nat_abs-- (z s) (pos (m s / 2))) (below c)
 
 div-result : tie.Need-nonzero-div-result
 div-result c =
     let s = c.before in
-    let f = natAbs-- (z s) (pos (m s / 2)) in
+    let f = nat_abs-- (z s) (pos (m s / 2)) in
     (bits s, op-bits quot_z (sum_is s ◌-ℤ◌ f (below c)) (divisor-is s) (result_fits s ◌-ℤ◌ f (below c)))
 
 returns : tie.Need-returns
 returns c =
     let s = c.before in
-    let f = natAbs-- (z s) (pos (m s / 2)) in
+    let f = nat_abs-- (z s) (pos (m s / 2)) in
     op-back quot_z (sum_is s ◌-ℤ◌ f (below c)) (divisor-is s) (result_fits s ◌-ℤ◌ f (below c)) ∙ below c
 
 add-result : tie.Need-overflow-add-result
-add-result c = let s = c.before in sum_fits s ◌+ℤ◌ (natAbs-+ (z s) (pos (m s / 2))) (from_zero c)
+add-result c = let s = c.before in sum_fits s ◌+ℤ◌ (nat_abs-+ (z s) (pos (m s / 2))) (from_zero c)
 
 div-result-2 : tie.Need-nonzero-div-result-2
 div-result-2 c =
     let s = c.before in
-    let f = natAbs-+ (z s) (pos (m s / 2)) in
+    let f = nat_abs-+ (z s) (pos (m s / 2)) in
     (bits s, op-bits quot_z (sum_is s ◌+ℤ◌ f (from_zero c)) (divisor-is s) (result_fits s ◌+ℤ◌ f (from_zero c)))
 
 returns-2 : tie.Need-returns-2
 returns-2 c =
     let s = c.before in
-    let f = natAbs-+ (z s) (pos (m s / 2)) in
+    let f = nat_abs-+ (z s) (pos (m s / 2)) in
     op-back quot_z (sum_is s ◌+ℤ◌ f (from_zero c)) (divisor-is s) (result_fits s ◌+ℤ◌ f (from_zero c)) ∙ from_zero c
 
 pub nearest-away-spec : {M : Type 1} → statement M

@@ -5,8 +5,8 @@ use native.Mathlib.Omega.{arith}
 use lib.IntN.{ℤ, pos, ◌+ℤ◌}
 use mir.Syntax.{w64}
 use mir.Val.{SFits, to_z, of_z}
-use Rattle.whole.proofs.Magnitudes.{natAbs-+}
-use Rattle.whole.proofs.Machine.{natAbs-sfits, op-bits, op-back}
+use Rattle.whole.proofs.Magnitudes.{nat_abs-+}
+use Rattle.whole.proofs.Machine.{nat_abs-sfits, op-bits, op-back}
 use Rattle.layout.specs.Shape.{Shape, shape}
 use Rattle.layout.specs.Limits.{cut}
 use Rattle.layout.proofs.Fine.{well-formed}
@@ -32,7 +32,7 @@ module _ (c : tie.After-at) where
   next_fits : SFits w64 (here +ℤ pos 1)
   next_fits =
       let s = c.before in
-      natAbs-sfits (here +ℤ pos 1) (omega (arith, natAbs-+ here (pos 1), cut-within S s.args.self.numbers s.requires (well-formed s.args.self.model).has-variable))
+      nat_abs-sfits (here +ℤ pos 1) (omega (arith, nat_abs-+ here (pos 1), cut-within S s.args.self.numbers s.requires (well-formed s.args.self.model).has-variable))
 
 add-result : tie.Need-overflow-add-result
 add-result c = let d = c.before in op-bits ◌+ℤ◌ (cut-is d) (refl {a = pos 1}) (next_fits d)

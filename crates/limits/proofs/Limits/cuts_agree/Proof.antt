@@ -9,23 +9,23 @@ use lib.IntN.{ℤ, pos, nat_abs, ◌+ℤ◌, ◌*ℤ◌}
 use lib.Signed.{le_z, lt_z}
 use mir.Syntax.{w64}
 use mir.Val.{SFits, to_z, of_z}
-use Rattle.whole.specs.Down.{thousand, roundedDown}
+use Rattle.whole.specs.Down.{thousand, rounded_down}
 use Rattle.whole.proofs.Identity.{quote, quote-pos, ring1}
-use Rattle.whole.proofs.Linear.{zarith, quote-natAbs}
+use Rattle.whole.proofs.Linear.{zarith, quote-nat_abs}
 use Rattle.whole.proofs.Machine.{op-bits, op-back}
 use Rattle.layout.specs.Shape.{Shape, shape}
-use Rattle.layout.specs.Limits.{cut, fineCut, farthestLimit, same}
+use Rattle.layout.specs.Limits.{cut, fine_cut, farthest_limit, same}
 use Rattle.layout.proofs.Fine.{well-formed}
 use Rattle.laws.proofs.LimitLaws.{cut-within, same-bounds}
 use Rattle.limits.proofs.Held.{held}
 use Rattle.limits.proofs.Limits.cuts_agree.Statement.{statement}
 use Rattle.limits.proofs.Limits.cuts_agree.Tie as tie
 
-from-fits : (c : ℤ) → nat_abs c ≤ farthestLimit → SFits w64 (pos thousand *ℤ c)
-from-fits c = ring1 c (λ ρ e. simp (quote, quote-pos ρ, e, quote-natAbs) (omega zarith))
+from-fits : (c : ℤ) → nat_abs c ≤ farthest_limit → SFits w64 (pos thousand *ℤ c)
+from-fits c = ring1 c (λ ρ e. simp (quote, quote-pos ρ, e, quote-nat_abs) (omega zarith))
 
-to-fits : (c : ℤ) → nat_abs c ≤ farthestLimit → SFits w64 (pos thousand *ℤ c +ℤ pos thousand)
-to-fits c = ring1 c (λ ρ e. simp (quote, quote-pos ρ, e, quote-natAbs) (omega zarith))
+to-fits : (c : ℤ) → nat_abs c ≤ farthest_limit → SFits w64 (pos thousand *ℤ c +ℤ pos thousand)
+to-fits c = ring1 c (λ ρ e. simp (quote, quote-pos ρ, e, quote-nat_abs) (omega zarith))
 
 has-fine-cut-requires : tie.Need-has-fine-cut-requires
 has-fine-cut-requires c κs = tt
@@ -34,7 +34,7 @@ returns : tie.Need-returns
 returns c =
     let d = c.before in
     let s = d.before.args.self in
-    sym (ap (λ b. not b || same (cut (shape s.model) s.numbers) (roundedDown thousand (fineCut (shape s.model) s.numbers))) (sym d.has-fine-cut.ensures ∙ not-true _ c.if1.true))
+    sym (ap (λ b. not b || same (cut (shape s.model) s.numbers) (rounded_down thousand (fine_cut (shape s.model) s.numbers))) (sym d.has-fine-cut.ensures ∙ not-true _ c.if1.true))
 
 at-requires : tie.Need-at-requires
 at-requires c κs = omega arith
@@ -50,7 +50,7 @@ module _ (c : tie.After-at) where
   abbrev numbers : List ℤ
   numbers = start.args.self.numbers
 
-  cut-near : nat_abs (cut S numbers) ≤ farthestLimit
+  cut-near : nat_abs (cut S numbers) ≤ farthest_limit
   cut-near = cut-within S numbers start.pre (well-formed start.args.self.model).has-variable
 
   cut-is : to_z w64 (of_z w64 c.at.result) ≡ cut S numbers
@@ -74,8 +74,8 @@ returns-2 c =
     let fine = held c.at2.result c.at2.type-inv c.at2.ensures in
     let above = op-back ◌+ℤ◌ (from_is d) (refl {a = pos thousand}) (to-fits (cut (S d) (numbers d)) (cut-near d)) in
     ap₂ ◌&&◌ (ap₂ le_z (from_is d) fine) (ap₂ lt_z fine above)
-    ∙ same-bounds (cut (S d) (numbers d)) (fineCut (S d) (numbers d))
-    ∙ sym (ap (λ b. not b || same (cut (S d) (numbers d)) (roundedDown thousand (fineCut (S d) (numbers d)))) (sym d.before.before.has-fine-cut.ensures ∙ not-false _ d.before.if1.false))
+    ∙ same-bounds (cut (S d) (numbers d)) (fine_cut (S d) (numbers d))
+    ∙ sym (ap (λ b. not b || same (cut (S d) (numbers d)) (rounded_down thousand (fine_cut (S d) (numbers d)))) (sym d.before.before.has-fine-cut.ensures ∙ not-false _ d.before.if1.false))
 
 pub cuts-agree-spec : {M : Type 1} → statement M
 cuts-agree-spec =

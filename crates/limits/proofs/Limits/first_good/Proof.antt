@@ -7,8 +7,8 @@ use lib.IntN.{pos, neg_ℤ}
 use lib.Signed.{le_z, lt_z}
 use Rattle.whole.proofs.Order.{≤ℤ-trans, <ℤ-≤ℤ}
 use Rattle.layout.specs.Shape.{shape}
-use Rattle.layout.specs.Limits.{lowest, highest, cut, farthestLimit}
-use Rattle.laws.proofs.Tests.{&&-left, &&-right, leZ-fact, ltZ-fact}
+use Rattle.layout.specs.Limits.{lowest, highest, cut, farthest_limit}
+use Rattle.laws.proofs.Tests.{&&-left, &&-right, le_z-fact, lt_z-fact}
 use Rattle.limits.proofs.Good.{ends-near}
 use Rattle.limits.proofs.Held.{held}
 use Rattle.limits.proofs.Limits.first_good.Statement.{statement}
@@ -33,11 +33,11 @@ returns c =
     let high = highest (shape s.model) s.numbers 0 in
     let below = le_z low middle in
     let above = lt_z middle high in
-    ap₂ ◌&&◌ (ap₂ ◌&&◌ (ap₂ (λ x y. le_z (neg_ℤ (pos farthestLimit)) x && le_z x y) (held b.lowest.result b.lowest.type-inv b.lowest.ensures) (held d.at.result d.at.type-inv d.at.ensures))
+    ap₂ ◌&&◌ (ap₂ ◌&&◌ (ap₂ (λ x y. le_z (neg_ℤ (pos farthest_limit)) x && le_z x y) (held b.lowest.result b.lowest.type-inv b.lowest.ensures) (held d.at.result d.at.type-inv d.at.ensures))
     (ap₂ lt_z (held d.at.result d.at.type-inv d.at.ensures) (held c.highest.result c.highest.type-inv c.highest.ensures)))
-    (ap (λ y. le_z y (pos farthestLimit)) (held c.highest.result c.highest.type-inv c.highest.ensures))
-    ∙ ap (λ x. x && le_z high (pos farthestLimit)) (and_assoc (le_z (neg_ℤ (pos farthestLimit)) low) below above)
-    ∙ ends-near low high (below && above) (λ e. ≤ℤ-trans (leZ-fact (&&-left below above e)) (<ℤ-≤ℤ (ltZ-fact (&&-right below above e))))
+    (ap (λ y. le_z y (pos farthest_limit)) (held c.highest.result c.highest.type-inv c.highest.ensures))
+    ∙ ap (λ x. x && le_z high (pos farthest_limit)) (and_assoc (le_z (neg_ℤ (pos farthest_limit)) low) below above)
+    ∙ ends-near low high (below && above) (λ e. ≤ℤ-trans (le_z-fact (&&-left below above e)) (<ℤ-≤ℤ (lt_z-fact (&&-right below above e))))
 
 pub first-good-spec : {M : Type 1} → statement M
 first-good-spec = tie.close (tie.spec lowest-requires at-requires highest-requires returns)

@@ -10,23 +10,23 @@ use lib.Dec.{ltb}
 use lib.IntN.{ℤ}
 use Rattle.layout.specs.declared.Model.{Model}
 use Rattle.layout.specs.Shape.{shape}
-use Rattle.layout.specs.Numbers.{variablesRoom}
+use Rattle.layout.specs.Numbers.{variables_room}
 use Rattle.layout.specs.Limits.{every}
 use Rattle.layout.proofs.Fine.{few-variables}
 use Rattle.laws.proofs.Tests.{every-none, every_more, every-stops}
-use Rattle.limits.specs.Good.{variableGood}
+use Rattle.limits.specs.Good.{variable_good}
 use Rattle.limits.proofs.Rooms.{every-room, cond-in, cond-past}
 use Rattle.limits.proofs.Limits.others_good.Statement.{statement}
 use Rattle.limits.proofs.Limits.others_good.Tie as tie
 
 -- the test of variable i
 abbrev tested : Model → List ℤ → ℕ → Bool
-tested m t i = cond (ltb i (shape m).variables) (variableGood (shape m) t i) true
+tested m t i = cond (ltb i (shape m).variables) (variable_good (shape m) t i) true
 
-in-room : (m : Model) (t : List ℤ) → every (variablesRoom - 1) (λ i. tested m t (suc i)) ≡ every ((shape m).variables - 1) (λ i. variableGood (shape m) t (suc i))
+in-room : (m : Model) (t : List ℤ) → every (variables_room - 1) (λ i. tested m t (suc i)) ≡ every ((shape m).variables - 1) (λ i. variable_good (shape m) t (suc i))
 in-room m t =
     let n = (shape m).variables in
-    every-room (omega (arith, few-variables m)) (λ i h. cond-in (suc i) n (omega arith)) (λ i h. cond-past (suc i) n (variableGood (shape m) t (suc i)) (omega arith))
+    every-room (omega (arith, few-variables m)) (λ i h. cond-in (suc i) n (omega arith)) (λ i h. cond-past (suc i) n (variable_good (shape m) t (suc i)) (omega arith))
 
 -- that of the variables past the first, and before one
 abbrev before : Model → List ℤ → ℕ → Bool
@@ -38,16 +38,16 @@ one_more m t n h e d =
     let l : n + 1 - 1 ≡ n - 1 + 1 = omega arith in
     ap (λ r. every r (λ i. tested m t (suc i))) l ∙ every_more (n - 1) (λ i. tested m t (suc i)) e (ap (tested m t) k ∙ d)
 
-stops : (m : Model) (t : List ℤ) (n : ℕ) → 1 ≤ n → n < variablesRoom → tested m t n ≡ false → before m t variablesRoom ≡ false
+stops : (m : Model) (t : List ℤ) (n : ℕ) → 1 ≤ n → n < variables_room → tested m t n ≡ false → before m t variables_room ≡ false
 stops m t n h l d =
     let k : suc (n - 1) ≡ n = omega arith in
-    every-stops (variablesRoom - 1) (λ i. tested m t (suc i)) (n - 1) (omega arith) (ap (tested m t) k ∙ d)
+    every-stops (variables_room - 1) (λ i. tested m t (suc i)) (n - 1) (omega arith) (ap (tested m t) k ∙ d)
 
 abbrev invariant-loop : tie.invariant-loop
-invariant-loop self variable₀ variable = (1 ≤ variable) × (variable ≤ variablesRoom) × (before self.model self.numbers variable ≡ true)
+invariant-loop self variable₀ variable = (1 ≤ variable) × (variable ≤ variables_room) × (before self.model self.numbers variable ≡ true)
 
 abbrev decreases-loop : tie.decreases-loop
-decreases-loop self variable₀ variable = variablesRoom - variable
+decreases-loop self variable₀ variable = variables_room - variable
 
 loop-holds : tie.Need-loop-init invariant-loop decreases-loop
 loop-holds c = (omega arith, omega arith, every-none _)
@@ -83,7 +83,7 @@ returns-2 : tie.Need-returns-2 invariant-loop decreases-loop
 returns-2 c =
     let l = c.before.loop in
     let s = c.before.before.args.self in
-    let e : l.variable ≡ variablesRoom = omega (arith, l.invariant.1, c.loop-test.false) in
+    let e : l.variable ≡ variables_room = omega (arith, l.invariant.1, c.loop-test.false) in
     sym l.invariant.2 ∙ ap (before s.model s.numbers) e ∙ in-room s.model s.numbers
 
 pub others-good-spec : {M : Type 1} → statement M

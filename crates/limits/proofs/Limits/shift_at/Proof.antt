@@ -9,14 +9,14 @@ use mir.Val.{SFits}
 use mir.Facts.{to_z-of_z}
 use Rattle.whole.specs.Down.{thousand}
 use Rattle.whole.proofs.Identity.{quote, quote-pos, ring1}
-use Rattle.whole.proofs.Linear.{zarith, quote-natAbs}
+use Rattle.whole.proofs.Linear.{zarith, quote-nat_abs}
 use Rattle.whole.proofs.Machine.{op-bits, op-back}
-use Rattle.layout.specs.Limits.{longestShift}
+use Rattle.layout.specs.Limits.{longest_shift}
 use Rattle.limits.proofs.Limits.shift_at.Statement.{statement}
 use Rattle.limits.proofs.Limits.shift_at.Tie as tie
 
-thousandths-fit : (s : ℤ) → nat_abs s ≤ longestShift → SFits w64 (pos thousand *ℤ s)
-thousandths-fit s = ring1 s (λ ρ e. simp (quote, quote-pos ρ, e, quote-natAbs) (omega zarith))
+thousandths-fit : (s : ℤ) → nat_abs s ≤ longest_shift → SFits w64 (pos thousand *ℤ s)
+thousandths-fit s = ring1 s (λ ρ e. simp (quote, quote-pos ρ, e, quote-nat_abs) (omega zarith))
 
 is-fine-cut-requires : tie.Need-is-fine-cut-requires
 is-fine-cut-requires c κs = tt

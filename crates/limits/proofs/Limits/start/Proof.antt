@@ -2,12 +2,12 @@
 use mathlib.Core.Path.{◌≡◌, ◌∙◌, ap}
 use Prim.Native.Nat.{ℕ, zero, suc, ◌+◌, ◌*◌, ◌<◌}
 use native.Mathlib.Omega.{arith}
-use Rattle.layout.specs.Shape.{Shape, shape, fineCuts, lowestPlace}
+use Rattle.layout.specs.Shape.{Shape, shape, fine_cuts, lowest_place}
 use Rattle.layout.proofs.Fine.{few-fine}
 use Rattle.limits.proofs.Limits.start.Statement.{statement}
 use Rattle.limits.proofs.Limits.start.Tie as tie
 
-place_is : (S : Shape) (i : ℕ) → 0 < i → 2 * i + 1 + fineCuts S ≡ lowestPlace S i
+place_is : (S : Shape) (i : ℕ) → 0 < i → 2 * i + 1 + fine_cuts S ≡ lowest_place S i
 place_is S zero h = absurd (omega arith)
 place_is S (suc i) h = omega arith
 

@@ -6,9 +6,9 @@ use native.Mathlib.Omega.{arith}
 use lib.IntN.{pos, neg_ℤ}
 use lib.Signed.{le_z}
 use Rattle.layout.specs.Shape.{shape}
-use Rattle.layout.specs.Limits.{lowest, highest, farthestLimit, inOrder}
-use Rattle.laws.proofs.Tests.{leZ-fact}
-use Rattle.limits.specs.Good.{variableGood}
+use Rattle.layout.specs.Limits.{lowest, highest, farthest_limit, in_order}
+use Rattle.laws.proofs.Tests.{le_z-fact}
+use Rattle.limits.specs.Good.{variable_good}
 use Rattle.limits.proofs.Good.{ends-near}
 use Rattle.limits.proofs.Held.{held}
 use Rattle.limits.proofs.Rooms.{cond-in, cond-past}
@@ -22,7 +22,7 @@ returns : tie.Need-returns
 returns c =
     let a = c.before.before.args in
     let S = shape a.self.model in
-    sym (cond-past a.variable S.variables (variableGood S a.self.numbers a.variable) (omega (arith, c.if1.true, c.before.variables.ensures)))
+    sym (cond-past a.variable S.variables (variable_good S a.self.numbers a.variable) (omega (arith, c.if1.true, c.before.variables.ensures)))
 
 lowest-requires : tie.Need-lowest-requires
 lowest-requires c κs = c.before.before.requires
@@ -38,8 +38,8 @@ returns-2 c =
     let t = a.self.numbers in
     let low = held d.lowest.result d.lowest.type-inv d.lowest.ensures in
     let high = held c.highest.result c.highest.type-inv c.highest.ensures in
-    ap₂ (λ x y. le_z (neg_ℤ (pos farthestLimit)) x && le_z x y && le_z y (pos farthestLimit)) low high
-    ∙ ends-near (lowest S t a.variable) (highest S t a.variable) (inOrder S t a.variable) leZ-fact
+    ap₂ (λ x y. le_z (neg_ℤ (pos farthest_limit)) x && le_z x y && le_z y (pos farthest_limit)) low high
+    ∙ ends-near (lowest S t a.variable) (highest S t a.variable) (in_order S t a.variable) le_z-fact
     ∙ sym (cond-in a.variable S.variables (omega (arith, d.before.if1.false, d.before.before.variables.ensures)))
 
 pub variable-good-spec : {M : Type 1} → statement M

@@ -8,7 +8,7 @@ use native.Mathlib.Omega.{arith}
 use borrow.Author.Tests.{eq-eqb, ne_eqb, le-leb, lt-leb, leb-true}
 use borrow.Author.Rules.{rules}
 use lib.Dec.{leb}
-use Rattle.lines.specs.Line.{isDigit}
+use Rattle.lines.specs.Line.{is_digit}
 use Rattle.lines.proofs.State.step.Statement.{statement}
 use Rattle.lines.proofs.State.step.Tie as tie
 
@@ -16,11 +16,11 @@ use Rattle.lines.proofs.State.step.Tie as tie
 worth : (b : ℕ) → leb b 57 ≡ true → b - 48 ≤ 9
 worth b e = let h = leb-true b 57 e in omega arith
 
-is_digit : (b : ℕ) → 48 ≤ b → leb b 57 ≡ true → isDigit b ≡ true
-is_digit b h e = ap₂ ◌&&◌ (le-leb 48 b h) e
+is_digit_lem : (b : ℕ) → 48 ≤ b → leb b 57 ≡ true → is_digit b ≡ true
+is_digit_lem b h e = ap₂ ◌&&◌ (le-leb 48 b h) e
 
-no_digit : (c : tie.Joined1) → isDigit c.before.args.byte ≡ false
-no_digit c =
+no_digit_lem : (c : tie.Joined1) → is_digit c.before.args.byte ≡ false
+no_digit_lem c =
     let b = c.before.args.byte in
     ⊎_elim (λ w. ap₂ ◌&&◌ (le-leb 48 b w.0.taken) w.1.left) (λ w. ap (λ t. t && leb b 57) (lt-leb 48 b w.left)) c.if1.branch
 
@@ -34,25 +34,25 @@ digit-requires : tie.Need-digit-requires
 digit-requires c κs = worth c.before.before.args.byte c.if2.true
 
 returns : tie.Need-returns
-returns c = c.digit.ensures ∙ simp (is_digit c.before.before.before.args.byte c.before.before.if1.true c.before.if2.true)
+returns c = c.digit.ensures ∙ simp (is_digit_lem c.before.before.before.args.byte c.before.before.if1.true c.before.if2.true)
 
 ended-requires : tie.Need-ended-requires
 ended-requires c κs = search rules
 
 returns-2 : tie.Need-returns-2
-returns-2 c = c.ended.ensures ∙ simp (no_digit c.before.before, eq-eqb _ _ c.before.if3.true)
+returns-2 c = c.ended.ensures ∙ simp (no_digit_lem c.before.before, eq-eqb _ _ c.before.if3.true)
 
 minus-requires : tie.Need-minus-requires
 minus-requires c κs = search rules
 
 returns-3 : tie.Need-returns-3
-returns-3 c = c.minus.ensures ∙ simp (no_digit c.before.before.before, ne_eqb _ _ c.before.before.if3.false, eq-eqb _ _ c.before.if4.true)
+returns-3 c = c.minus.ensures ∙ simp (no_digit_lem c.before.before.before, ne_eqb _ _ c.before.before.if3.false, eq-eqb _ _ c.before.if4.true)
 
 refused-requires : tie.Need-refused-requires
 refused-requires c κs = search rules
 
 returns-4 : tie.Need-returns-4
-returns-4 c = c.refused.ensures ∙ simp (no_digit c.before.before.before, ne_eqb _ _ c.before.before.if3.false, ne_eqb _ _ c.before.if4.false)
+returns-4 c = c.refused.ensures ∙ simp (no_digit_lem c.before.before.before, ne_eqb _ _ c.before.before.if3.false, ne_eqb _ _ c.before.if4.false)
 
 pub step_spec : {M : Type 1} → statement M
 step_spec =

@@ -1,14 +1,14 @@
 -- `spaces::rooms::copy_space` meets its contract: the loop counts up to the end of a space. Assumes nothing.
 use Rattle.std.proofs.Common.{◌+◌, ◌-◌, ◌≤◌, rules}
-use Rattle.spaces.specs.Sizes.{spaceRoom}
+use Rattle.spaces.specs.Sizes.{space_room}
 use Rattle.spaces.proofs.rooms.copy_space.Statement.{statement}
 use Rattle.spaces.proofs.rooms.copy_space.Tie as tie
 
 abbrev invariant-loop : tie.invariant-loop
-invariant-loop space into spaces₀ from to k₀ spaces k = (k ≤ 1 + spaceRoom)
+invariant-loop space into spaces₀ from to k₀ spaces k = (k ≤ 1 + space_room)
 
 abbrev decreases-loop : tie.decreases-loop
-decreases-loop space into spaces₀ from to k₀ spaces k = 1 + spaceRoom - k
+decreases-loop space into spaces₀ from to k₀ spaces k = 1 + space_room - k
 
 place-of-requires : tie.Need-place-of-requires invariant-loop decreases-loop
 place-of-requires c κs = search rules

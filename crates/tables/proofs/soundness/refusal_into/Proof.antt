@@ -3,7 +3,7 @@ use mathlib.Core.Path.{◌≡◌, sym, ◌∙◌}
 use borrow.Author.Rules.{rules}
 use borrow.Author.Tests.{eq-eqb, ne_eqb}
 use Rattle.layout.specs.Shape.{shape}
-use Rattle.layout.specs.Refusals.{wrongTable, wrongOutput}
+use Rattle.layout.specs.Refusals.{wrong_table, wrong_output}
 use Rattle.laws.proofs.Refused.{first-hit, first-skip}
 use Rattle.tables.proofs.Steps.{into-whole}
 use Rattle.tables.proofs.soundness.refusal_into.Statement.{statement}
@@ -13,7 +13,7 @@ table-requires : tie.Need-table-requires
 table-requires c κs = search rules
 
 returns : tie.Need-returns
-returns c = sym (first-hit wrongTable _ (ne_eqb _ _ (λ e. c.if1.true (e ∙ sym c.before.table.ensures))))
+returns c = sym (first-hit wrong_table _ (ne_eqb _ _ (λ e. c.if1.true (e ∙ sym c.before.table.ensures))))
 
 blocks-requires : tie.Need-blocks-requires
 blocks-requires c κs = search rules
@@ -21,7 +21,7 @@ blocks-requires c κs = search rules
 returns-2 : tie.Need-returns-2
 returns-2 c =
     let l = c.before.before in
-    sym (first-skip wrongTable _ (eq-eqb _ _ (l.if1.false ∙ l.before.table.ensures)) ∙ first-hit wrongOutput _ (ne_eqb _ _ (λ e. c.if2.true (e ∙ sym c.before.blocks2.ensures))))
+    sym (first-skip wrong_table _ (eq-eqb _ _ (l.if1.false ∙ l.before.table.ensures)) ∙ first-hit wrong_output _ (ne_eqb _ _ (λ e. c.if2.true (e ∙ sym c.before.blocks2.ensures))))
 
 soundness-requires : tie.Need-soundness-requires
 soundness-requires c κs = let l = c.before.before in l.if1.false ∙ l.before.table.ensures

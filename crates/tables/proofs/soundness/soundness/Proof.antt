@@ -7,10 +7,10 @@ use borrow.Author.Tests.{not-true, not-false}
 use lib.IntN.{ℤ}
 use Rattle.layout.specs.declared.Model.{Model}
 use Rattle.layout.specs.Shape.{Shape, shape}
-use Rattle.layout.specs.Limits.{allInRange, good}
-use Rattle.layout.specs.Sound.{reach, withinCap, light}
-use Rattle.layout.specs.Reaches.{listedReaches, reachesOf}
-use Rattle.layout.specs.Refusals.{badLimits, tooHeavy}
+use Rattle.layout.specs.Limits.{all_in_range, good}
+use Rattle.layout.specs.Sound.{reach, within_cap, light}
+use Rattle.layout.specs.Reaches.{listed_reaches, reaches_of}
+use Rattle.layout.specs.Refusals.{bad_limits, too_heavy}
 use Rattle.layout.proofs.Fine.{some-table}
 use Rattle.laws.proofs.LimitLaws.{good-facts}
 use Rattle.laws.proofs.Reaches.{reach-one, listed-one}
@@ -37,13 +37,13 @@ limits-good : (c : tie.Else1) → let d = c.before.before in good (S d) (table d
 limits-good c = sym (good-is c.before) ∙ not-false _ c.if1.false
 
 -- the reaches, as they come back
-reaches-are : (c : tie.After-reaches) → let d = c.before.before.before in c.reaches.result ≡ listedReaches (reach (S d) (taken (m d) (table d)))
+reaches-are : (c : tie.After-reaches) → let d = c.before.before.before in c.reaches.result ≡ listed_reaches (reach (S d) (taken (m d) (table d)))
 reaches-are c = let d = c.before.before.before in c.reaches.ensures ∙ reaches-taken (m d) (table d) d.of.result d.of.ensures
 
 light-is : (c : tie.After-within-cap) → let d = c.before.before.before.before in c.within_cap.result ≡ light (S d) (table d)
 light-is c =
     let d = c.before.before.before.before in
-    c.within_cap.ensures ∙ ap (λ l. withinCap (S d) (table d) (reachesOf l)) (reaches-are c.before) ∙ light-taken (m d) (table d)
+    c.within_cap.ensures ∙ ap (λ l. within_cap (S d) (table d) (reaches_of l)) (reaches-are c.before) ∙ light-taken (m d) (table d)
 
 of-requires : tie.Need-of-requires
 of-requires c κs = omega (arith, c.requires, some-table c.args.model)
@@ -52,7 +52,7 @@ good-requires : tie.Need-good-requires
 good-requires c κs = tt
 
 returns : tie.Need-returns
-returns c = sym (first-hit badLimits _ (sym (good-is c.before) ∙ not-true _ c.if1.true))
+returns c = sym (first-hit bad_limits _ (sym (good-is c.before) ∙ not-true _ c.if1.true))
 
 reaches-requires : tie.Need-reaches-requires
 reaches-requires c κs = let d = c.before.before in range-taken (m d) (table d) d.of.result d.of.ensures ∙ (good-facts (S d) (table d) (limits-good c)).range
@@ -67,11 +67,11 @@ within-cap-requires c κs =
 
 returns-2 : tie.Need-returns-2
 returns-2 c =
-    sym (first-skip badLimits _ (limits-good c.before.before.before) ∙ first-hit tooHeavy [] (sym (light-is c.before) ∙ not-true _ c.if2.true))
+    sym (first-skip bad_limits _ (limits-good c.before.before.before) ∙ first-hit too_heavy [] (sym (light-is c.before) ∙ not-true _ c.if2.true))
 
 returns-3 : tie.Need-returns-3
 returns-3 c =
-    sym (first-skip badLimits _ (limits-good c.before.before.before) ∙ first-skip tooHeavy [] (sym (light-is c.before) ∙ not-false _ c.if2.false) ∙ first-nothing)
+    sym (first-skip bad_limits _ (limits-good c.before.before.before) ∙ first-skip too_heavy [] (sym (light-is c.before) ∙ not-false _ c.if2.false) ∙ first-nothing)
 
 pub soundness-spec : {M : Type 1} → statement M
 soundness-spec =
