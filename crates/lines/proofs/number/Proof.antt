@@ -30,17 +30,17 @@ minus-read n f = to_z-of_z (minus-fits n f) ∙ +ℤ_idl (neg_ℤ (to_z w64 n)) 
 below : (digits : ℕ) → digits % 65536 < 65536
 below digits = omega arith
 
-cast-plain : tie.Need-overflow-cast-plain
+cast-plain : tie.Need-overflow_cast-plain
 cast-plain c = search rules
 
-sub-result : tie.Need-overflow-sub-result
+sub-result : tie.Need-overflow_sub-result
 sub-result c = minus-fits (c.before.args.digits % 65536) (below c.before.args.digits)
 
-returns : tie.Need-returns
-returns c = minus-read (c.before.args.digits % 65536) (below c.before.args.digits) ∙ simp (lt-ltb _ _ c.if1.true)
+returns : tie.Need-returns-then-minus-gt0
+returns c = minus-read (c.before.args.digits % 65536) (below c.before.args.digits) ∙ simp (lt-ltb _ _ c.if-minus-gt0.true)
 
-returns-2 : tie.Need-returns-2
-returns-2 c = plain-read (c.before.args.digits % 65536) (below c.before.args.digits) ∙ simp (le-ltb _ _ c.if1.false)
+returns-2 : tie.Need-returns
+returns-2 c = plain-read (c.before.args.digits % 65536) (below c.before.args.digits) ∙ simp (le-ltb _ _ c.if-minus-gt0.false)
 
-pub number-spec : {M : Type 1} → statement M
-number-spec = tie.close (tie.spec cast-plain sub-result returns returns-2)
+pub number_spec : {M : Type 1} → statement M
+number_spec = tie.close (tie.spec cast-plain sub-result returns returns-2)

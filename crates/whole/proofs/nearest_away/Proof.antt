@@ -60,46 +60,46 @@ module _ (c : tie.Start) where
     result_fits : SFits w64 (quot_z (op z (pos (m / 2))) (pos m))
     result_fits = subst (SFits w64) (sym e) (nat_abs-sfits _ small)
 
-below : (c : tie.Then1) → quot_z (z c.before -ℤ pos (m c.before / 2)) (pos (m c.before)) ≡ nearest_away (m c.before) (z c.before)
-below c = cut_below _ (z c.before) (lt-taken c.before.ranges.z (sfits_lit tt) c.if1.true)
+below : (c : tie.Then-z-lt0) → quot_z (z c.before -ℤ pos (m c.before / 2)) (pos (m c.before)) ≡ nearest_away (m c.before) (z c.before)
+below c = cut_below _ (z c.before) (lt-taken c.before.ranges.z (sfits_lit tt) c.if-z-lt0.true)
 
-from_zero : (c : tie.Else1) → quot_z (z c.before +ℤ pos (m c.before / 2)) (pos (m c.before)) ≡ nearest_away (m c.before) (z c.before)
-from_zero c = cut-above _ (z c.before) (lt-left c.before.ranges.z (sfits_lit tt) c.if1.false)
+from_zero : (c : tie.Else-z-lt0) → quot_z (z c.before +ℤ pos (m c.before / 2)) (pos (m c.before)) ≡ nearest_away (m c.before) (z c.before)
+from_zero c = cut-above _ (z c.before) (lt-left c.before.ranges.z (sfits_lit tt) c.if-z-lt0.false)
 
-div-half : tie.Need-nonzero-div-half
+div-half : tie.Need-nonzero_div-half
 div-half c = (omega arith, op-bits quot_z (divisor-is c) (refl {a = pos 2}) (half-fits c))
 
-sub-result : tie.Need-overflow-sub-result
+sub-result : tie.Need-overflow_sub-result
 sub-result c = let s = c.before in sum_fits s ◌-ℤ◌ (nat_abs-- (z s) (pos (m s / 2))) (below c)
 
-div-result : tie.Need-nonzero-div-result
+div-result : tie.Need-nonzero_div-result
 div-result c =
     let s = c.before in
     let f = nat_abs-- (z s) (pos (m s / 2)) in
     (bits s, op-bits quot_z (sum_is s ◌-ℤ◌ f (below c)) (divisor-is s) (result_fits s ◌-ℤ◌ f (below c)))
 
-returns : tie.Need-returns
+returns : tie.Need-returns-then-z-lt0
 returns c =
     let s = c.before in
     let f = nat_abs-- (z s) (pos (m s / 2)) in
     op-back quot_z (sum_is s ◌-ℤ◌ f (below c)) (divisor-is s) (result_fits s ◌-ℤ◌ f (below c)) ∙ below c
 
-add-result : tie.Need-overflow-add-result
+add-result : tie.Need-overflow_add-result
 add-result c = let s = c.before in sum_fits s ◌+ℤ◌ (nat_abs-+ (z s) (pos (m s / 2))) (from_zero c)
 
-div-result-2 : tie.Need-nonzero-div-result-2
+div-result-2 : tie.Need-nonzero_div-result-2
 div-result-2 c =
     let s = c.before in
     let f = nat_abs-+ (z s) (pos (m s / 2)) in
     (bits s, op-bits quot_z (sum_is s ◌+ℤ◌ f (from_zero c)) (divisor-is s) (result_fits s ◌+ℤ◌ f (from_zero c)))
 
-returns-2 : tie.Need-returns-2
+returns-2 : tie.Need-returns
 returns-2 c =
     let s = c.before in
     let f = nat_abs-+ (z s) (pos (m s / 2)) in
     op-back quot_z (sum_is s ◌+ℤ◌ f (from_zero c)) (divisor-is s) (result_fits s ◌+ℤ◌ f (from_zero c)) ∙ from_zero c
 
-pub nearest-away-spec : {M : Type 1} → statement M
-nearest-away-spec =
+pub nearest_away_spec : {M : Type 1} → statement M
+nearest_away_spec =
     tie.close
     (tie.spec div-half sub-result div-result returns add-result div-result-2 returns-2)

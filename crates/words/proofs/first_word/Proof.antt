@@ -13,10 +13,10 @@ use Rattle.words.proofs.Runs.{first-within, first_run, later-run}
 use Rattle.words.proofs.first_word.Statement.{statement}
 use Rattle.words.proofs.first_word.Tie as tie
 
-run-end-requires : tie.Need-run-end-requires
+run-end-requires : tie.Need-run_end-start-requires
 run-end-requires c κs = search rules
 
-run-end-requires-2 : tie.Need-run-end-requires-2
+run-end-requires-2 : tie.Need-run_end-end-requires
 run-end-requires-2 c κs = search rules
 
 returns : tie.Need-returns
@@ -24,16 +24,16 @@ returns c =
     let s = c.before.before.before in
     let a = s.args in
     let l = a.line.now in
-    let starts = c.before.run-end.ensures in
-    let ends = c.run-end2.ensures ∙ ap (λ n. n + length (run false (drop n l))) starts in
+    let starts = c.before.run_end-start.ensures in
+    let ends = c.run_end-end.ensures ∙ ap (λ n. n + length (run false (drop n l))) starts in
     record {
       at = record {
-        ordered = omega (arith, c.run-end2.ensures);
+        ordered = omega (arith, c.run_end-end.ensures);
         within = omega (arith, ends, first-within l a.from s.requires);
         bytes = ap₂ (λ n m. slice n m l) starts ends ∙ first_run l a.from s.requires;
       };
       later = ap (λ n. words (drop n l)) ends ∙ later-run l a.from s.requires;
     }
 
-pub first-word-spec : {M : Type 1} → statement M
-first-word-spec = tie.close (tie.spec run-end-requires run-end-requires-2 returns)
+pub first_word_spec : {M : Type 1} → statement M
+first_word_spec = tie.close (tie.spec run-end-requires run-end-requires-2 returns)

@@ -6,19 +6,19 @@ use Rattle.words.specs.Words.{same}
 use Rattle.words.proofs.same_word.Statement.{statement}
 use Rattle.words.proofs.same_word.Tie as tie
 
-word-at-requires : tie.Need-word-at-requires
+word-at-requires : tie.Need-word_at-one-requires
 word-at-requires c κs = search rules
 
-word-at-requires-2 : tie.Need-word-at-requires-2
+word-at-requires-2 : tie.Need-word_at-other-requires
 word-at-requires-2 c κs = search rules
 
-same-part-requires : tie.Need-same-part-requires
+same-part-requires : tie.Need-same_part-requires
 same-part-requires c κs = search rules
 
 returns : tie.Need-returns
 returns c =
-    c.same-part.ensures ∙ ap₂ same c.before.before.word_at.ensures.bytes c.before.word-at2.ensures.bytes
+    c.same_part.ensures ∙ ap₂ same c.before.before.word_at-one.ensures.bytes c.before.word_at-other.ensures.bytes
 
-pub same-word-spec : {M : Type 1} → statement M
-same-word-spec =
+pub same_word_spec : {M : Type 1} → statement M
+same_word_spec =
     tie.close (tie.spec word-at-requires word-at-requires-2 same-part-requires returns)

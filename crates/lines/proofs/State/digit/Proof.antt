@@ -9,17 +9,17 @@ use Rattle.lines.proofs.State.digit.Tie as tie
 refused-requires : tie.Need-refused-requires
 refused-requires c κs = search rules
 
-returns : tie.Need-returns
-returns c = c.refused.ensures ∙ simp (le-leb _ _ c.before.if1.true)
+returns : tie.Need-returns-then-self-ge-FOUR_DIGITS
+returns c = c.refused.ensures ∙ simp (le-leb _ _ c.before.if-self-ge-FOUR_DIGITS.true)
 
-mul-self : tie.Need-overflow-mul-self
+mul-self : tie.Need-overflow_mul-self
 mul-self c = search rules
 
-add-self : tie.Need-overflow-add-self
+add-self : tie.Need-overflow_add-self
 add-self c = search rules
 
-returns-2 : tie.Need-returns-2
-returns-2 c = simp (lt-leb _ _ c.before.if1.false)
+returns-2 : tie.Need-returns
+returns-2 c = simp (lt-leb _ _ c.before.if-self-ge-FOUR_DIGITS.false)
 
-pub digit-spec : {M : Type 1} → statement M
-digit-spec = tie.close (tie.spec refused-requires returns mul-self add-self returns-2)
+pub digit_spec : {M : Type 1} → statement M
+digit_spec = tie.close (tie.spec refused-requires returns mul-self add-self returns-2)

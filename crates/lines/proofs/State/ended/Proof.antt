@@ -13,38 +13,31 @@ use Rattle.lines.proofs.State.ended.Tie as tie
 refused-requires : tie.Need-refused-requires
 refused-requires c κs = search rules
 
-returns : tie.Need-returns
-returns c = c.refused.ensures ∙ simp (lt-ltb _ _ c.before.if1.true)
+returns : tie.Need-returns-then-self-lt-ONE_DIGIT
+returns c = c.refused.ensures ∙ simp (lt-ltb _ _ c.before.if-self-lt-ONE_DIGIT.true)
 
-refused-requires-2 : tie.Need-refused-requires-2
+refused-requires-2 : tie.Need-refused-requires-then-self-ge4
 refused-requires-2 c κs = search rules
 
-returns-2 : tie.Need-returns-2
-returns-2 c = c.refused2.ensures ∙ simp (le-ltb _ _ c.before.before.before.if1.false, le-leb _ _ c.before.if2.true)
+returns-2 : tie.Need-returns-then-self-ge4
+returns-2 c = c.refused-then-self-ge4.ensures ∙ simp (le-ltb _ _ c.before.before.before.if-self-lt-ONE_DIGIT.false, le-leb _ _ c.before.if-self-ge4.true)
 
-add-t3 : tie.Need-overflow-add-t3
+add-t3 : tie.Need-overflow_add-result
 add-t3 c = search rules
 
 number-requires : tie.Need-number-requires
 number-requires c κs = search rules
 
-returns-3 : tie.Need-returns-3
+returns-3 : tie.Need-returns
 returns-3 c =
     let s = c.before.before.before.before.before.before.before.args.self in
     let beta : to_z w64 (of_z w64 s.beta) ≡ s.beta = search rules in
     let xi : to_z w64 (of_z w64 s.xi) ≡ s.xi = search rules in
     let eta : to_z w64 (of_z w64 s.eta) ≡ s.eta = search rules in
-    let last : to_z w64 (of_z w64 c.before.number.result) ≡ number_of s.minus s.digits = to_z-of_z (sfits_of {z = c.before.number.result} c.before.number.type-inv) ∙ c.before.number.ensures in
-    simp (le-ltb _ _ c.before.before.before.before.before.if1.false, lt-leb _ _ c.before.before.before.if2.false, beta, xi, eta, last)
+    let last : to_z w64 (of_z w64 c.before.number.result) ≡ number_of s.minus s.digits = to_z-of_z (sfits_of {z = c.before.number.result} c.before.number.type_inv) ∙ c.before.number.ensures in
+    simp (le-ltb _ _ c.before.before.before.before.before.if-self-lt-ONE_DIGIT.false, lt-leb _ _ c.before.before.before.if-self-ge4.false, beta, xi, eta, last)
 
-pub ended-spec : {M : Type 1} → statement M
-ended-spec =
+pub ended_spec : {M : Type 1} → statement M
+ended_spec =
     tie.close
-    (tie.spec
-    refused-requires
-    returns
-    refused-requires-2
-    returns-2
-    add-t3
-    number-requires
-    returns-3)
+    (tie.spec refused-requires returns refused-requires-2 returns-2 add-t3 number-requires returns-3)

@@ -10,24 +10,24 @@ use Rattle.lines.specs.State.{number_of}
 use Rattle.lines.proofs.State.finish.Statement.{statement}
 use Rattle.lines.proofs.State.finish.Tie as tie
 
-returns : tie.Need-returns
-returns c = simp (ne_eqb _ _ c.if1.true)
+returns : tie.Need-returns-then-self-ne4
+returns c = simp (ne_eqb _ _ c.if-self-ne4.true)
 
-returns-2 : tie.Need-returns-2
-returns-2 c = simp (eq-eqb _ _ c.before.before.if1.false, lt-ltb _ _ c.if2.true)
+returns-2 : tie.Need-returns-then-self-lt-ONE_DIGIT
+returns-2 c = simp (eq-eqb _ _ c.before.before.if-self-ne4.false, lt-ltb _ _ c.if-self-lt-ONE_DIGIT.true)
 
 number-requires : tie.Need-number-requires
 number-requires c κs = search rules
 
-returns-3 : tie.Need-returns-3
+returns-3 : tie.Need-returns
 returns-3 c =
     let s = c.before.before.before.before.before.before.args.self in
     let alpha : to_z w64 (of_z w64 s.alpha) ≡ s.alpha = search rules in
     let beta : to_z w64 (of_z w64 s.beta) ≡ s.beta = search rules in
     let xi : to_z w64 (of_z w64 s.xi) ≡ s.xi = search rules in
     let eta : to_z w64 (of_z w64 s.eta) ≡ s.eta = search rules in
-    let last : to_z w64 (of_z w64 c.before.number.result) ≡ number_of s.minus s.digits = to_z-of_z (sfits_of {z = c.before.number.result} c.before.number.type-inv) ∙ c.before.number.ensures in
-    simp (eq-eqb _ _ c.before.before.before.before.if1.false, le-ltb _ _ c.before.before.if2.false, alpha, beta, xi, eta, last)
+    let last : to_z w64 (of_z w64 c.before.number.result) ≡ number_of s.minus s.digits = to_z-of_z (sfits_of {z = c.before.number.result} c.before.number.type_inv) ∙ c.before.number.ensures in
+    simp (eq-eqb _ _ c.before.before.before.before.if-self-ne4.false, le-ltb _ _ c.before.before.if-self-lt-ONE_DIGIT.false, alpha, beta, xi, eta, last)
 
 pub finish_spec : {M : Type 1} → statement M
 finish_spec = tie.close (tie.spec returns returns-2 number-requires returns-3)

@@ -19,52 +19,42 @@ worth b e = let h = leb-true b 57 e in omega arith
 is_digit_lem : (b : ℕ) → 48 ≤ b → leb b 57 ≡ true → is_digit b ≡ true
 is_digit_lem b h e = ap₂ ◌&&◌ (le-leb 48 b h) e
 
-no_digit_lem : (c : tie.Joined1) → is_digit c.before.args.byte ≡ false
+no_digit_lem : (c : tie.Joined-else-byte-ge48) → is_digit c.before.args.byte ≡ false
 no_digit_lem c =
     let b = c.before.args.byte in
-    ⊎_elim (λ w. ap₂ ◌&&◌ (le-leb 48 b w.0.taken) w.1.left) (λ w. ap (λ t. t && leb b 57) (lt-leb 48 b w.left)) c.if1.branch
+    ⊎_elim (λ w. ap₂ ◌&&◌ (le-leb 48 b w.0.taken) w.1.left) (λ w. ap (λ t. t && leb b 57) (lt-leb 48 b w.left)) c.else-byte-ge48.branch
 
-cast-digit : tie.Need-overflow-cast-digit
+cast-digit : tie.Need-overflow_cast-digit
 cast-digit c = search rules
 
-sub-digit : tie.Need-overflow-sub-digit
+sub-digit : tie.Need-overflow_sub-byte
 sub-digit c = search rules
 
 digit-requires : tie.Need-digit-requires
-digit-requires c κs = worth c.before.before.args.byte c.if2.true
+digit-requires c κs = worth c.before.before.args.byte c.if-byte-le57.true-raw
 
-returns : tie.Need-returns
-returns c = c.digit.ensures ∙ simp (is_digit_lem c.before.before.before.args.byte c.before.before.if1.true c.before.if2.true)
+returns : tie.Need-returns-then-byte-le57
+returns c = c.digit.ensures ∙ simp (is_digit_lem c.before.before.before.args.byte c.before.before.if-byte-ge48.true c.before.if-byte-le57.true-raw)
 
 ended-requires : tie.Need-ended-requires
 ended-requires c κs = search rules
 
-returns-2 : tie.Need-returns-2
-returns-2 c = c.ended.ensures ∙ simp (no_digit_lem c.before.before, eq-eqb _ _ c.before.if3.true)
+returns-2 : tie.Need-returns-then-byte-eq32
+returns-2 c = c.ended.ensures ∙ simp (no_digit_lem c.before.before, eq-eqb _ _ c.before.if-byte-eq32.true)
 
 minus-requires : tie.Need-minus-requires
 minus-requires c κs = search rules
 
-returns-3 : tie.Need-returns-3
-returns-3 c = c.minus.ensures ∙ simp (no_digit_lem c.before.before.before, ne_eqb _ _ c.before.before.if3.false, eq-eqb _ _ c.before.if4.true)
+returns-3 : tie.Need-returns-then-byte-eq45
+returns-3 c = c.minus.ensures ∙ simp (no_digit_lem c.before.before.before, ne_eqb _ _ c.before.before.if-byte-eq32.false, eq-eqb _ _ c.before.if-byte-eq45.true)
 
 refused-requires : tie.Need-refused-requires
 refused-requires c κs = search rules
 
-returns-4 : tie.Need-returns-4
-returns-4 c = c.refused.ensures ∙ simp (no_digit_lem c.before.before.before, ne_eqb _ _ c.before.before.if3.false, ne_eqb _ _ c.before.if4.false)
+returns-4 : tie.Need-returns
+returns-4 c = c.refused.ensures ∙ simp (no_digit_lem c.before.before.before, ne_eqb _ _ c.before.before.if-byte-eq32.false, ne_eqb _ _ c.before.if-byte-eq45.false)
 
 pub step_spec : {M : Type 1} → statement M
 step_spec =
     tie.close
-    (tie.spec
-    cast-digit
-    sub-digit
-    digit-requires
-    returns
-    ended-requires
-    returns-2
-    minus-requires
-    returns-3
-    refused-requires
-    returns-4)
+    (tie.spec cast-digit sub-digit digit-requires returns ended-requires returns-2 minus-requires returns-3 refused-requires returns-4)
