@@ -1,3 +1,5 @@
+#![tactic(auto)]
+
 ghost use Rattle.std.specs.Prelude.{◌≡◌, ◌+◌, ◌/◌, ◌^◌, ◌<◌, pos, nat_abs, ◌<ℤ◌};
 ghost use Rattle.whole.specs.Nearest.{nearest_away};
 

@@ -1,16 +1,16 @@
 -- `whole::nearest_away` meets its contract: z with half of m beside it fits, and the quotient is no larger than that. Assumes nothing.
-use mathlib.Core.Path.{◌≡◌, refl, sym, ◌∙◌, ap, ap₂, subst}
-use Prim.Native.Nat.{ℕ, ◌+◌, ◌*◌, ◌/◌, ◌^◌, ◌≤◌, ◌<◌}
+use mathlib.Core.Path.{◌≡◌, refl, sym, ◌∙◌, subst}
+use Prim.Native.Nat.{ℕ, ◌+◌, ◌/◌, ◌^◌, ◌≤◌, ◌<◌}
 use native.Mathlib.Nat as N
 use native.Mathlib.Omega.{arith}
 use lib.IntN.{ℤ, pos, negsuc, nat_abs, ◌+ℤ◌, ◌-ℤ◌}
-use lib.Signed.{quot_z, ◌≤ℤ◌, ◌<ℤ◌}
+use lib.Signed.{quot_z, ◌<ℤ◌}
 use mir.Syntax.{w64}
 use mir.Val.{SFits, to_z, of_z}
 use mir.Facts.{to_z-of_z, sfits_lit}
 use Rattle.whole.specs.Nearest.{nearest_away}
 use Rattle.whole.proofs.Magnitudes.{nat_abs-+, nat_abs--}
-use Rattle.whole.proofs.Machine.{nat_abs-sfits, sfits-bound, op-bits, op-back, lt-taken, lt-left}
+use Rattle.whole.proofs.Machine.{nat_abs-sfits, op-bits, op-back, lt-taken, lt-left}
 use Rattle.whole.proofs.Order.{lt_out}
 use Rattle.whole.proofs.Nearest.{nearest-size, cut_below, cut-above}
 use Rattle.whole.proofs.nearest_away.Statement.{statement}
