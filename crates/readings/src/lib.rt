@@ -1,6 +1,7 @@
 // The operations of the library that read, and leave every space as it was. Each is lent a room of its own, but for the one that answers
 // with floats. The bytes of an answer are compared with those that the second program works out; proved is that everything stays within
 // its room.
+#![tactic(auto)]
 use commands::State;
 use layout::cumulus_one::VARIABLES;
 use lending::{MARGIN, fresh, put_read};

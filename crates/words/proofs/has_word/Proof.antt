@@ -1,7 +1,6 @@
 -- `words::has_word` meets its contract: no word is empty, and where there are fewer words the place is.
 -- Assumes nothing.
 use mathlib.Core.Path.{sym, ap, ◌∙◌}
-use Prim.Native.Nat.{◌-◌}
 use borrow.Author.Rules.{rules}
 use lib.ListN.{length}
 use lib.Seq.{length-slice}

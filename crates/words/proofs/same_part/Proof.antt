@@ -57,7 +57,7 @@ module _ (c : tie.Else-k-stop invariant-loop decreases-loop) where
   both : same (x ∷ xs) (y ∷ ys) ≡ same (slice start.args.i start.args.end start.args.a.now) (slice start.args.k start.args.stop start.args.b.now)
   both =
       sym (ap₂ same (slice-more at.loop-i.i start.args.end start.args.a.now c.before.loop-i-test.true start.requires.0) (slice-more at.loop-i.k start.args.stop start.args.b.now c.if-k-stop.false start.requires.1))
-      ∙ at.loop-i.inv
+      ∙ at.loop-i.invariant
 
 returns-2 : tie.Need-returns-then-a-i invariant-loop decreases-loop
 returns-2 c =
