@@ -1,7 +1,7 @@
 -- Answers as floats.
 --   zero-positive   the answer of a zero is the positive zero
 --   never-nan       no answer is a NaN
-use Rattle.std.proofs.Common.{◌≡◌, ℕ, zero, suc, ◌+◌, ◌*◌, ◌^◌, Bool, true, false, cond, eqb, ltb, ℤ, pos, negsuc, sym, refl, ap, ◌∙◌, true≢false}
+use Rattle.std.proofs.Common.{◌≡◌, ℕ, zero, suc, ◌+◌, ◌*◌, ◌^◌, Bool, true, false, cond, eqb, ltb, ℤ, pos, negsuc, refl, ap, ◌∙◌, true≢false}
 use lib.Ieee.{Float, nan, inf, fin, Format, binary64, prec, emax, low, unlike, up, down, odd, units, round, div, of_int, is_nan}
 use Rattle.rounding.specs.Answer.{float_of}
 

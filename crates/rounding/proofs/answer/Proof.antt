@@ -6,14 +6,14 @@ use Rattle.rounding.specs.Answer.{float_of}
 use Rattle.rounding.proofs.answer.Statement.{statement}
 use Rattle.rounding.proofs.answer.Tie as tie
 
-nearest-i64-to-f64-requires : tie.Need-nearest-i64-to-f64-requires
+nearest-i64-to-f64-requires : tie.Need-nearest_i64_to_f64-requires
 nearest-i64-to-f64-requires c κs = search rules
 
 returns : tie.Need-returns
 unfolding float_of of_int of_bits
 returns c =
     ap (λ (y : Float). div binary64 y (of_int binary64 (pos (10 ^ 17))))
-    (c.nearest-i64-to-f64.ensures ∙ ap (of_int binary64) (to_z-of_z c.before.ranges.z))
+    (c.nearest_i64_to_f64.ensures ∙ ap (of_int binary64) (to_z-of_z c.before.ranges.z))
 
-pub answer-spec : {M : Type 1} → statement M
-answer-spec = tie.close (tie.spec nearest-i64-to-f64-requires returns)
+pub answer_spec : {M : Type 1} → statement M
+answer_spec = tie.close (tie.spec nearest-i64-to-f64-requires returns)

@@ -20,13 +20,13 @@ not-above-least nan h = h
 not-above-least (inf s) h = h
 not-above-least (fin s m e) h = absurd (true≢false h)
 
-returns : tie.Need-returns
+returns : tie.Need-returns-then-x
 unfolding of_bits div neg
-returns c = above-least c.before.args.x c.if1.true
+returns c = above-least c.before.args.x c.if-x.true
 
-returns-2 : tie.Need-returns-2
+returns-2 : tie.Need-returns-else-x
 unfolding of_bits div neg
-returns-2 c = not-above-least c.before.args.x c.if1.false
+returns-2 c = not-above-least c.before.args.x c.if-x.false
 
-pub is-finite-spec : {M : Type 1} → statement M
-is-finite-spec = tie.close (tie.spec returns returns-2)
+pub is_finite_spec : {M : Type 1} → statement M
+is_finite_spec = tie.close (tie.spec returns returns-2)

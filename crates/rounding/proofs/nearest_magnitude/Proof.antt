@@ -44,41 +44,41 @@ module _ (a y : Float) (q : ℕ) (p : T (positive a)) (e : q ≡ num a / den a) 
   rounds-up h = ap (λ (n : ℕ). n + 1) e ∙ rounded-from (num a) (den a) (den_pos a) (same_test ∙ h)
 
 -- ---- at the code's places
-module _ (c : tie.After-truncating-f64-to-u64) where
+module _ (c : tie.After-truncating_f64_to_u64-q) where
   abbrev a : Float
   a = c.before.args.a
 
   abbrev q : ℕ
-  q = c.truncating-f64-to-u64.result
+  q = c.truncating_f64_to_u64-q.result
 
   q-is : q ≡ num a / den a
-  q-is = c.truncating-f64-to-u64.ensures ∙ truncated a c.before.requires.0 c.before.requires.1
+  q-is = c.truncating_f64_to_u64-q.ensures ∙ truncated a c.before.requires.0 c.before.requires.1
 
   q-small : q ≤ farthest_near
   q-small = subst (λ (n : ℕ). n ≤ farthest_near) (sym q-is) (whole-part-within (num a) (den a) (den_pos a) farthest_near c.before.requires.1)
 
-truncating-f64-to-u64-requires : tie.Need-truncating-f64-to-u64-requires
+truncating-f64-to-u64-requires : tie.Need-truncating_f64_to_u64-q-requires
 truncating-f64-to-u64-requires c κs = truncatable c.args.a c.requires.0 c.requires.1
 
-half-above-requires : tie.Need-half-above-requires
+half-above-requires : tie.Need-half_above-requires
 half-above-requires c κs = q-small c
 
-add-result : tie.Need-overflow-add-result
+add-result : tie.Need-overflow_add-result
 add-result c = omega (arith, q-small c.before.before)
 
-returns : tie.Need-returns
+returns : tie.Need-returns-then-a-half_above
 returns c =
     let h = c.before in
     let s = h.before in
-    rounds-down (a s) h.half-above.result (q s) s.before.requires.0 (q-is s) h.half-above.ensures c.if1.true
+    rounds-down (a s) h.half_above.result (q s) s.before.requires.0 (q-is s) h.half_above.ensures c.if-a-half_above.true
 
-returns-2 : tie.Need-returns-2
+returns-2 : tie.Need-returns-else-a-half_above
 returns-2 c =
     let h = c.before in
     let s = h.before in
-    rounds-up (a s) h.half-above.result (q s) s.before.requires.0 (q-is s) h.half-above.ensures c.if1.false
+    rounds-up (a s) h.half_above.result (q s) s.before.requires.0 (q-is s) h.half_above.ensures c.if-a-half_above.false
 
-pub nearest-magnitude-spec : {M : Type 1} → statement M
-nearest-magnitude-spec =
+pub nearest_magnitude_spec : {M : Type 1} → statement M
+nearest_magnitude_spec =
     tie.close
     (tie.spec truncating-f64-to-u64-requires half-above-requires add-result returns returns-2)

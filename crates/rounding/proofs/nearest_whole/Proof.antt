@@ -37,65 +37,57 @@ small : (a : Float) (n : ℕ) → num a ≤ farthest_near * den a → n ≡ near
 small a n l e = subst (λ (k : ℕ). k ≤ farthest_near) (sym e) (up-within (den a) (den_pos a) (num a) farthest_near (omega (arith, mul_comm (den a) farthest_near)))
 
 -- ---- below zero
-below : (c : tie.Then1) → Below c.before.args.x
+below : (c : tie.Then-x) → Below c.before.args.x
 unfolding of_bits
-below c = below-zero c.before.args.x c.before.requires c.if1.true
+below c = below-zero c.before.args.x c.before.requires c.if-x.true
 
-small-below : (c : tie.After-nearest-magnitude) → c.nearest-magnitude.result ≤ farthest_near
+small-below : (c : tie.After-nearest_magnitude) → c.nearest_magnitude.result ≤ farthest_near
 small-below c =
-    small (neg c.before.before.args.x) c.nearest-magnitude.result (below c.before).small c.nearest-magnitude.ensures
+    small (neg c.before.before.args.x) c.nearest_magnitude.result (below c.before).small c.nearest_magnitude.ensures
 
-nearest-magnitude-requires : tie.Need-nearest-magnitude-requires
+nearest-magnitude-requires : tie.Need-nearest_magnitude-requires
 nearest-magnitude-requires c κs = ((below c).turned, (below c).small)
 
-cast-result : tie.Need-overflow-cast-result
-cast-result c = fits c.nearest-magnitude.result (small-below c)
+cast-result : tie.Need-overflow_cast-result
+cast-result c = fits c.nearest_magnitude.result (small-below c)
 
-sub-result : tie.Need-overflow-sub-result
-sub-result c = turned-bits c.nearest-magnitude.result (small-below c)
+sub-result : tie.Need-overflow_sub-result
+sub-result c = turned-bits c.nearest_magnitude.result (small-below c)
 
-returns : tie.Need-returns
+returns : tie.Need-returns-then-x
 returns c =
-    turned-back c.nearest-magnitude.result (small-below c) ∙ ap (λ (n : ℕ). neg_ℤ (pos n)) c.nearest-magnitude.ensures ∙ (below c.before).is
+    turned-back c.nearest_magnitude.result (small-below c) ∙ ap (λ (n : ℕ). neg_ℤ (pos n)) c.nearest_magnitude.ensures ∙ (below c.before).is
 
 -- ---- above zero
-small-above : (c : tie.After-nearest-magnitude2) → c.nearest-magnitude2.result ≤ farthest_near
+small-above : (c : tie.After-nearest_magnitude-then-x-2) → c.nearest_magnitude-then-x-2.result ≤ farthest_near
 small-above c =
     let s = c.before.before.before in
-    small s.args.x c.nearest-magnitude2.result s.requires.small c.nearest-magnitude2.ensures
+    small s.args.x c.nearest_magnitude-then-x-2.result s.requires.small c.nearest_magnitude-then-x-2.ensures
 
-nearest-magnitude-requires-2 : tie.Need-nearest-magnitude-requires-2
+nearest-magnitude-requires-2 : tie.Need-nearest_magnitude-requires-then-x-2
 unfolding of_bits
 nearest-magnitude-requires-2 c κs =
     let s = c.before.before in
-    (positive_of s.args.x s.requires c.if2.true, s.requires.small)
+    (positive_of s.args.x s.requires c.if-x-2.true, s.requires.small)
 
-cast-result-2 : tie.Need-overflow-cast-result-2
-cast-result-2 c = fits c.nearest-magnitude2.result (small-above c)
+cast-result-2 : tie.Need-overflow_cast-result-then-x-2
+cast-result-2 c = fits c.nearest_magnitude-then-x-2.result (small-above c)
 
-returns-2 : tie.Need-returns-2
+returns-2 : tie.Need-returns-then-x-2
 unfolding of_bits
 returns-2 c =
     let s = c.before.before.before in
-    plain c.nearest-magnitude2.result (small-above c) ∙ ap pos c.nearest-magnitude2.ensures
-    ∙ above_zero s.args.x (positive_of s.args.x s.requires c.before.if2.true)
+    plain c.nearest_magnitude-then-x-2.result (small-above c) ∙ ap pos c.nearest_magnitude-then-x-2.ensures
+    ∙ above_zero s.args.x (positive_of s.args.x s.requires c.before.if-x-2.true)
 
 -- ---- zero
-returns-3 : tie.Need-returns-3
+returns-3 : tie.Need-returns-else-x-2
 unfolding of_bits
 returns-3 c =
     let s = c.before.before in
-    at_zero s.args.x s.requires c.before.if1.false c.if2.false
+    at_zero s.args.x s.requires c.before.if-x.false c.if-x-2.false
 
-pub nearest-whole-spec : {M : Type 1} → statement M
-nearest-whole-spec =
+pub nearest_whole_spec : {M : Type 1} → statement M
+nearest_whole_spec =
     tie.close
-    (tie.spec
-    nearest-magnitude-requires
-    cast-result
-    sub-result
-    nearest-magnitude-requires-2
-    cast-result-2
-    returns
-    returns-2
-    returns-3)
+    (tie.spec nearest-magnitude-requires cast-result sub-result nearest-magnitude-requires-2 cast-result-2 returns returns-2 returns-3)
