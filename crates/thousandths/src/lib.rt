@@ -1,4 +1,6 @@
 // Whether a float is at most a number of thousandths, as exact numbers. Whole numbers decide, for a product or a quotient of floats is rounded.
+#![tactic(auto)]
+
 ghost use Rattle.std.specs.Prelude.{◌≡◌, ◌^◌};
 ghost use Rattle.whole.specs.Down.{rounded_down};
 ghost use Rattle.rounding.specs.Ready.{Near};

@@ -18,20 +18,20 @@ number (fin s m e) n = tt
 fit : (s : tie.Start) → T (fits binary64 s.args.x)
 fit s = search rules
 
-float-to-bits-bits : tie.Need-float-to-bits-bits
+float-to-bits-bits : tie.Need-float_to_bits-bits
 float-to-bits-bits c = number c.args.x c.requires
 
-add-t8 : tie.Need-overflow-add-t8
+add-t8 : tie.Need-overflow_add-result
 add-t8 c = search rules
 
-sub-t9 : tie.Need-overflow-sub-t9
+sub-t9 : tie.Need-overflow_sub-result
 sub-t9 c = let s = c.before in omega (arith, field-near s.args.x (fit s) s.requires)
 
-returns : tie.Need-returns
-returns c = let s = c.before in parts_low s.args.x (fit s) s.requires c.if1.true
+returns : tie.Need-returns-then-field-eq0
+returns c = let s = c.before in parts_low s.args.x (fit s) s.requires c.if-field-eq0.true
 
-returns-2 : tie.Need-returns-2
-returns-2 c = let s = c.before in parts-high s.args.x (fit s) s.requires c.if1.false
+returns-2 : tie.Need-returns-else-field-eq0
+returns-2 c = let s = c.before in parts-high s.args.x (fit s) s.requires c.if-field-eq0.false
 
-pub parts-of-spec : {M : Type 1} → statement M
-parts-of-spec = tie.close (tie.spec float-to-bits-bits add-t8 sub-t9 returns returns-2)
+pub parts_of_spec : {M : Type 1} → statement M
+parts_of_spec = tie.close (tie.spec float-to-bits-bits add-t8 sub-t9 returns returns-2)

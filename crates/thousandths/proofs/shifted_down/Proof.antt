@@ -26,21 +26,21 @@ far m n (negsuc k) h l = ap negsuc (div-eq_of_lt h ∙ sym (div-eq_of_lt (lt_of_
 
 -- a shift as the machine reads its result back
 shifted : (m : ℕ) {z : ℤ} → SFits w64 z → to_z w64 (of_z w64 (shr_z (to_z w64 (of_z w64 z)) m)) ≡ shr_z z m
-shifted m {z} f = ap (λ y. to_z w64 (of_z w64 (shr_z y m))) (to_z-of_z f) ∙ to_z-of_z (record { sfits = lt_of_le_of_lt (mag_shr z m) f.sfits })
+shifted m {z} f = ap (λ y. to_z w64 (of_z w64 (shr_z y m))) (to_z-of_z f) ∙ to_z-of_z {w = w64} (record { sfits = lt_of_le_of_lt (mag_shr z m) f.sfits })
 
-cast-result : tie.Need-overflow-cast-result
+cast-result : tie.Need-overflow_cast-result
 cast-result c = search rules
 
-shr-result : tie.Need-overflow-shr-result
+shr-result : tie.Need-overflow_shr-result
 shr-result c = search rules
 
-returns : tie.Need-returns
+returns : tie.Need-returns-then-shift-lt63
 returns c = let s = c.before in shifted (2 ^ s.args.shift) s.ranges.z ∙ shift-down (2 ^ s.args.shift) s.args.z
 
-returns-2 : tie.Need-returns-2
+returns-2 : tie.Need-returns-else-shift-lt63
 returns-2 c =
     let s = c.before in
-    shifted (2 ^ 63) s.ranges.z ∙ far (2 ^ 63) (2 ^ s.args.shift) s.args.z s.ranges.z.sfits (pow_mono {i = 63} {j = s.args.shift} c.if1.false)
+    shifted (2 ^ 63) s.ranges.z ∙ far (2 ^ 63) (2 ^ s.args.shift) s.args.z s.ranges.z.sfits (pow_mono {i = 63} {j = s.args.shift} c.if-shift-lt63.false)
 
-pub shifted-down-spec : {M : Type 1} → statement M
-shifted-down-spec = tie.close (tie.spec cast-result shr-result returns returns-2)
+pub shifted_down_spec : {M : Type 1} → statement M
+shifted_down_spec = tie.close (tie.spec cast-result shr-result returns returns-2)

@@ -23,18 +23,18 @@ abbrev one : ℤ
 one = pos 1
 
 -- ---- what is shifted
-module _ (c : tie.After-struct-known) where
+module _ (c : tie.After-struct_known-1) where
   abbrev x : Float
   x = c.before.before.args.x
 
   abbrev d : ℕ
-  d = c.before.parts-of.result.digits
+  d = c.before.parts_of-p.result.digits
 
   abbrev s : ℕ
-  s = c.before.parts-of.result.shift
+  s = c.before.parts_of-p.result.shift
 
   parts : IsParts x d s
-  parts = c.before.parts-of.ensures
+  parts = c.before.parts_of-p.ensures
 
   abbrev n : ℤ
   n = pos (thousand * d)
@@ -52,8 +52,8 @@ module _ (c : tie.After-struct-known) where
 no-larger : (m : ℕ) (z r : ℤ) → r ≡ rounded_down m z → nat_abs r ≤ nat_abs z
 no-larger m z r e = subst (λ y. nat_abs y ≤ nat_abs z) (sym e) (down-size m z)
 
-module _ (c : tie.After-shifted-down) where
-  abbrev p : tie.After-struct-known
+module _ (c : tie.After-shifted_down) where
+  abbrev p : tie.After-struct_known-1
   p = c.before.before
 
   abbrev r : ℤ
@@ -63,76 +63,66 @@ module _ (c : tie.After-shifted-down) where
   is = c.shifted_down.ensures ∙ ap (rounded_down (2 ^ s p)) (to_z-of_z (fits p))
 
   r-fits : SFits w64 r
-  r-fits = record { sfits = c.shifted_down.type-inv }
+  r-fits = record { sfits = c.shifted_down.type_inv }
 
   turned-fits : SFits w64 (pos 0 -ℤ r)
   turned-fits = nat_abs-sfits (pos 0 -ℤ r) (omega (arith, nat_abs-- (pos 0) r, no-larger (2 ^ s p) (n p) r is, room p))
 
-module _ (c : tie.After-shifted-down2) where
-  abbrev p₂ : tie.After-struct-known
+module _ (c : tie.After-shifted_down-else-x) where
+  abbrev p₂ : tie.After-struct_known-1
   p₂ = c.before.before
 
   abbrev r₂ : ℤ
-  r₂ = c.shifted-down2.result
+  r₂ = c.shifted_down-else-x.result
 
   is₂ : r₂ ≡ rounded_down (2 ^ s p₂) (n p₂ -ℤ one)
-  is₂ = c.shifted-down2.ensures ∙ ap (rounded_down (2 ^ s p₂)) (op-back ◌-ℤ◌ (to_z-of_z (fits p₂)) (refl {a = one}) (less-fits p₂))
+  is₂ = c.shifted_down-else-x.ensures ∙ ap (rounded_down (2 ^ s p₂)) (op-back ◌-ℤ◌ (to_z-of_z (fits p₂)) (refl {a = one}) (less-fits p₂))
 
   r₂-fits : SFits w64 r₂
-  r₂-fits = record { sfits = c.shifted-down2.type-inv }
+  r₂-fits = record { sfits = c.shifted_down-else-x.type_inv }
 
   more-fits : SFits w64 (r₂ +ℤ one)
   more-fits =
       nat_abs-sfits (r₂ +ℤ one) (omega (arith, nat_abs-+ r₂ (one), no-larger (2 ^ s p₂) (n p₂ -ℤ one) r₂ is₂, nat_abs-- (n p₂) (one), room p₂))
 
 -- ---- the needs
-parts-of-requires : tie.Need-parts-of-requires
+parts-of-requires : tie.Need-parts_of-p-requires
 parts-of-requires c κs = search rules
 
-mul-n : tie.Need-overflow-mul-n
+mul-n : tie.Need-overflow_mul-n
 mul-n c = search rules
 
-cast-n : tie.Need-overflow-cast-n
+cast-n : tie.Need-overflow_cast-n
 cast-n c = search rules
 
-shifted-down-requires : tie.Need-shifted-down-requires
+shifted-down-requires : tie.Need-shifted_down-requires
 shifted-down-requires c κs = search rules
 
-sub-result : tie.Need-overflow-sub-result
+sub-result : tie.Need-overflow_sub-result
 sub-result c = op-bits ◌-ℤ◌ (refl {a = pos 0}) (to_z-of_z (r-fits c)) (turned-fits c)
 
-sub-shifted-down : tie.Need-overflow-sub-shifted-down
+sub-shifted-down : tie.Need-overflow_sub-n
 sub-shifted-down c = op-bits ◌-ℤ◌ (to_z-of_z (fits c.before)) (refl {a = one}) (less-fits c.before)
 
-shifted-down-requires-2 : tie.Need-shifted-down-requires-2
+shifted-down-requires-2 : tie.Need-shifted_down-requires-else-x
 shifted-down-requires-2 c κs = search rules
 
-add-result : tie.Need-overflow-add-result
+add-result : tie.Need-overflow_add-result
 add-result c = op-bits ◌+ℤ◌ (to_z-of_z (r₂-fits c)) (refl {a = one}) (more-fits c)
 
-returns : tie.Need-returns
+returns : tie.Need-returns-then-x
 unfolding of_bits
 returns c =
     op-back ◌-ℤ◌ (refl {a = pos 0}) (to_z-of_z (r-fits c)) (turned-fits c) ∙ +ℤ_idl (neg_ℤ (r c)) ∙ ap neg_ℤ (is c)
-    ∙ up-below (x (p c)) (d (p c)) (s (p c)) (parts (p c)) c.before.if1.true
+    ∙ up-below (x (p c)) (d (p c)) (s (p c)) (parts (p c)) c.before.if-x.true
 
-returns-2 : tie.Need-returns-2
+returns-2 : tie.Need-returns-else-x
 unfolding of_bits
 returns-2 c =
     op-back ◌+ℤ◌ (to_z-of_z (r₂-fits c)) (refl {a = one}) (more-fits c) ∙ ap (λ z. z +ℤ one) (is₂ c)
-    ∙ up_from (x (p₂ c)) (d (p₂ c)) (s (p₂ c)) (parts (p₂ c)) c.before.if1.false
+    ∙ up_from (x (p₂ c)) (d (p₂ c)) (s (p₂ c)) (parts (p₂ c)) c.before.if-x.false
 
-pub thousandths-up-spec : {M : Type 1} → statement M
-thousandths-up-spec =
+pub thousandths_up_spec : {M : Type 1} → statement M
+thousandths_up_spec =
     tie.close
-    (tie.spec
-    parts-of-requires
-    mul-n
-    cast-n
-    shifted-down-requires
-    sub-result
-    sub-shifted-down
-    shifted-down-requires-2
-    add-result
-    returns
-    returns-2)
+    (tie.spec parts-of-requires mul-n cast-n shifted-down-requires sub-result sub-shifted-down shifted-down-requires-2 add-result returns returns-2)
