@@ -1,4 +1,6 @@
 // One block of a table: the value of its coefficient, and its groups moved.
+#![tactic(auto)]
+
 ghost use Rattle.std.specs.Prelude.{◌≡◌, ℤ, length, take, drop};
 ghost use Rattle.polynomials.specs.Binomial.{multiplied_rows, shift_in};
 ghost use Rattle.polynomials.specs.Group.{value};

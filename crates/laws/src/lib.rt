@@ -1,1 +1,3 @@
 // No code: the laws of tables are in proofs/.
+#![tactic(auto)]
+

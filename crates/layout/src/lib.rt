@@ -1,4 +1,6 @@
 // Where the numbers of a model's table stand, and the numbers given back.
+#![tactic(auto)]
+
 pub mod cumulus_one;
 pub mod gtm_longitudinal;
 pub mod refusals;
@@ -12,14 +14,14 @@ pub const LIMITS_ROOM: usize = cumulus_one::LIMITS;
 pub const REACHES_ROOM: usize = 1 + VARIABLES_ROOM;
 
 // The models whose tables there are.
-#[derive(Drop)]
+#[derive(Clone, Copy)]
 pub enum Model {
     Cumulus,
     Gtm,
 }
 
 // One group of every block: its two variables by their numbers, and its degree.
-#[derive(Drop)]
+#[derive(Clone, Copy)]
 pub struct Kind {
     pub u: usize,
     pub v: usize,

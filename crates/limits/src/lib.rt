@@ -1,4 +1,6 @@
 // The limits of the readings: read from a table, tested, moved, and held against a reading.
+#![tactic(auto)]
+
 ghost use Rattle.std.specs.Prelude.{◌≡◌, true, not, cond, ◌&&◌, ◌≤◌, ◌<◌, max, ltb, pos, nat_abs, ◌+ℤ◌, length, take, get_or};
 ghost use Rattle.std.specs.Int.Signed.{le_z};
 ghost use Rattle.polynomials.specs.Sum.{listed};
@@ -35,7 +37,7 @@ pub const LOW: usize = 0;
 pub const HIGH: usize = 1;
 
 // The first numbers of a model's table, as many as any model has limits: its own come first.
-#[derive(Drop)]
+#[derive(Clone, Copy)]
 pub struct Limits {
     pub model: Model,
     pub numbers: [i64; LIMITS_ROOM],

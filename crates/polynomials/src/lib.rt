@@ -1,4 +1,6 @@
 // Polynomials in two variables u and v, held as slices of numbers in the order of `specs/Order.antt`.
+#![tactic(auto)]
+
 ghost use Rattle.std.specs.Prelude.{◌≡◌, ◌+◌, ◌*◌, ◌≤◌, pos, ◌*ℤ◌};
 ghost use Rattle.polynomials.specs.Numbers.{ints};
 ghost use Rattle.polynomials.specs.Group.{number, value, weight};
@@ -13,21 +15,21 @@ pub const CAP: u64 = 9_000_000_000_000_000_000;
 const HIGHEST_DEGREE: usize = 4;
 
 // One of the two variables of a group.
-#[derive(Drop)]
+#[derive(Clone, Copy)]
 pub enum Variable {
     First,
     Second,
 }
 
 // A running sum of weights, until it passes the cap.
-#[derive(Drop)]
+#[derive(Clone, Copy)]
 pub enum Weighed {
     Within(u64),
     Passed,
 }
 
 // A reach, and the most that it can multiply within the cap.
-#[derive(Drop)]
+#[derive(Clone, Copy)]
 pub struct Reach {
     pub size: u64,
     pub most: u64,
@@ -46,7 +48,7 @@ impl Reach {
 }
 
 // The powers of u and v that a number of a group stands before.
-#[derive(Drop)]
+#[derive(Clone, Copy)]
 pub struct Powers {
     pub first: usize,
     pub second: usize,

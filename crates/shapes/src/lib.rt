@@ -1,4 +1,6 @@
 // What the tables of each model look like, by the numbers of `layout`. Who knows a model asks here; nobody else has cases over the models.
+#![tactic(auto)]
+
 ghost use Rattle.std.specs.Prelude.{◌≡◌, ◌≤◌, ◌<◌, length};
 ghost use Rattle.polynomials.specs.Limits.{highest_degree};
 ghost use Rattle.polynomials.specs.Order.{size};

@@ -1,4 +1,6 @@
 // A group moved: the powers of v + s are multiplied out once, and every number of the moved group is made from them.
+#![tactic(auto)]
+
 ghost use Rattle.std.specs.Prelude.{◌≡◌, ◌+◌, ◌^◌, ◌≤◌, ◌<◌, ℤ, nat_abs, length};
 ghost use Rattle.polynomials.specs.Numbers.{ints};
 ghost use Rattle.polynomials.specs.Sum.{listed};

@@ -1,4 +1,6 @@
 // The weights of the coefficients, against the cap.
+#![tactic(auto)]
+
 ghost use Rattle.std.specs.Prelude.{◌≡◌, drop};
 ghost use Rattle.polynomials.specs.Groups.{weight_of, total_weight};
 ghost use Rattle.polynomials.specs.Limits.{against};

@@ -29,11 +29,11 @@ use Rattle.polynomials.proofs.add_row.Tie as tie
 abbrev sizes : List ℤ → ℕ → ℕ → ℕ
 sizes l q p = number nats (map nat_abs l) p q
 
-abbrev invariant-loop : tie.invariant-loop
+abbrev invariant-loop : tie.invariant-loop-p
 invariant-loop sum group degree q u v p₀ row₀ p row =
     (p ≤ degree - q) × (row ≡ down nats ◌*◌ (sizes group q) u.size (degree - q - p) p) × (row < 2 ^ 64)
 
-abbrev decreases-loop : tie.decreases-loop
+abbrev decreases-loop : tie.decreases-loop-p
 decreases-loop sum group degree q u v p₀ row₀ p row = p
 
 -- a number as it comes back, and its magnitude
@@ -81,97 +81,97 @@ module _ (c : tie.Start invariant-loop decreases-loop) where
   v-reached : Reached c.args.v
   v-reached = c.requires.1.1.1
 
-room : (c : tie.Else1 invariant-loop decreases-loop) → product c.before.before ≤ cap
-room c = reach-room (v-reached c.before.before) _ c.if1.false
+room : (c : tie.Else-sum-v invariant-loop decreases-loop) → product c.before.before ≤ cap
+room c = reach-room (v-reached c.before.before) _ c.if-sum-v.false
 
 -- ════ the first number
-module _ (c : tie.After-magnitude invariant-loop decreases-loop) where
+module _ (c : tie.After-magnitude-row invariant-loop decreases-loop) where
   abbrev first : tie.Start invariant-loop decreases-loop
   first = c.before.before.before.before
 
-  first-is : c.magnitude.result ≡ sizes (l first) (q first) (last first)
-  first-is = let n = c.before.number_at in size_is (l first) (last first) (q first) n.result n.type-inv n.ensures _ c.magnitude.ensures
+  first-is : c.magnitude-row.result ≡ sizes (l first) (q first) (last first)
+  first-is = let n = c.before.number_at in size_is (l first) (last first) (q first) n.result n.type_inv n.ensures _ c.magnitude-row.ensures
 
-  first_small : c.magnitude.result ≤ 2 ^ 63
-  first_small = let n = c.before.number_at in size_small (l first) (last first) (q first) n.result n.type-inv n.ensures _ c.magnitude.ensures
+  first_small : c.magnitude-row.result ≤ 2 ^ 63
+  first_small = let n = c.before.number_at in size_small (l first) (last first) (q first) n.result n.type_inv n.ensures _ c.magnitude-row.ensures
 
 -- ════ at a turn, which takes the power one below
-module _ (c : tie.In-loop invariant-loop decreases-loop) where
+module _ (c : tie.In-loop-p invariant-loop decreases-loop) where
   abbrev start : tie.Start invariant-loop decreases-loop
   start = first c.before.before
 
   abbrev p : ℕ
-  p = c.before.loop.p - 1
+  p = c.before.loop-p.p - 1
 
   inside : p < last start
   inside = omega arith
 
-  row_is : c.before.loop.row ≡ from start (p + 1)
-  row_is = let e : c.before.loop.p ≡ p + 1 = omega arith in c.before.loop.invariant.1 ∙ ap (from start) e
+  row_is : c.before.loop-p.row ≡ from start (p + 1)
+  row_is = let e : c.before.loop-p.p ≡ p + 1 = omega arith in c.before.loop-p.invariant.1 ∙ ap (from start) e
 
-row_room : (c : tie.Else2 invariant-loop decreases-loop) → let a = c.before.before in a.before.loop.row * r (start a) ≤ cap
-row_room c = reach-room (u-reached (start c.before.before)) _ c.if2.false
+row_room : (c : tie.Else-row-u invariant-loop decreases-loop) → let a = c.before.before in a.before.loop-p.row * r (start a) ≤ cap
+row_room c = reach-room (u-reached (start c.before.before)) _ c.if-row-u.false
 
-module _ (c : tie.After-magnitude2 invariant-loop decreases-loop) where
-  abbrev there : tie.Else2 invariant-loop decreases-loop
+module _ (c : tie.After-magnitude invariant-loop decreases-loop) where
+  abbrev there : tie.Else-row-u invariant-loop decreases-loop
   there = c.before.before.before
 
-  abbrev turn : tie.In-loop invariant-loop decreases-loop
+  abbrev turn : tie.In-loop-p invariant-loop decreases-loop
   turn = there.before.before
 
   abbrev s : tie.Start invariant-loop decreases-loop
   s = start turn
 
-  next-is : c.magnitude2.result ≡ sizes (l s) (q s) (p turn)
-  next-is = let n = c.before.number-at2 in size_is (l s) (p turn) (q s) n.result n.type-inv n.ensures _ c.magnitude2.ensures
+  next-is : c.magnitude.result ≡ sizes (l s) (q s) (p turn)
+  next-is = let n = c.before.number_at-in-loop-p in size_is (l s) (p turn) (q s) n.result n.type_inv n.ensures _ c.magnitude.ensures
 
-  next_small : c.magnitude2.result ≤ 2 ^ 63
-  next_small = let n = c.before.number-at2 in size_small (l s) (p turn) (q s) n.result n.type-inv n.ensures _ c.magnitude2.ensures
+  next_small : c.magnitude.result ≤ 2 ^ 63
+  next_small = let n = c.before.number_at-in-loop-p in size_small (l s) (p turn) (q s) n.result n.type_inv n.ensures _ c.magnitude.ensures
 
-returns : tie.Need-returns invariant-loop decreases-loop
-returns c = let a = c.before.before in joint-first (product a) (all a) (reach-past (v-reached a) _ c.if1.true)
+returns : tie.Need-returns-then-sum-v invariant-loop decreases-loop
+returns c = let a = c.before.before in joint-first (product a) (all a) (reach-past (v-reached a) _ c.if-sum-v.true)
 
-sub-p : tie.Need-overflow-sub-p invariant-loop decreases-loop
+sub-p : tie.Need-overflow_sub-p invariant-loop decreases-loop
 sub-p c = search rules
 
-number-at-requires : tie.Need-number-at-requires invariant-loop decreases-loop
+number-at-requires : tie.Need-number_at-requires invariant-loop decreases-loop
 number-at-requires c κs = let a = c.before.before in omega (arith, low a, a.requires.0)
 
-magnitude-requires : tie.Need-magnitude-requires invariant-loop decreases-loop
+magnitude-requires : tie.Need-magnitude-row-requires invariant-loop decreases-loop
 magnitude-requires c κs = search rules
 
-loop-holds : tie.Need-loop-init invariant-loop decreases-loop
+loop-holds : tie.Need-loop-p-init invariant-loop decreases-loop
 loop-holds c = (N.le_refl _, first-is c ∙ sym (down-start nats ◌*◌ _ _ (last (first c))), omega (arith, first_small c))
 
-returns-2 : tie.Need-returns-2 invariant-loop decreases-loop
+returns-2 : tie.Need-returns-then-row-u invariant-loop decreases-loop
 returns-2 c =
     let i = c.before.before in
     let a = start i in
-    let h = reach-past (u-reached a) _ c.if2.true in
-    let e : i.before.loop.row * r a ≤ all a =
+    let h = reach-past (u-reached a) _ c.if-row-u.true in
+    let e : i.before.loop-p.row * r a ≤ all a =
     N.le_trans (N.le_of_eq (ap (λ m. m * r a) (row_is i))) (down-product (sizes (l a) (q a)) (r a) (u-reached a).one (last a) (p i) (inside i))
     in
     joint-second (product a) (all a) (N.lt_of_lt_of_le h e)
 
-sub-p-2 : tie.Need-overflow-sub-p-2 invariant-loop decreases-loop
+sub-p-2 : tie.Need-overflow_sub-p-in-loop-p invariant-loop decreases-loop
 sub-p-2 c = search rules
 
-mul-row : tie.Need-overflow-mul-row invariant-loop decreases-loop
+mul-row : tie.Need-overflow_mul-row invariant-loop decreases-loop
 mul-row c = record { fits = omega (arith, row_room c.before) }
 
-number-at-requires-2 : tie.Need-number-at-requires-2 invariant-loop decreases-loop
-number-at-requires-2 c κs = let i = c.before.before.before in let a = start i in omega (arith, inside i, low a, a.pre.0)
+number-at-requires-2 : tie.Need-number_at-requires-in-loop-p invariant-loop decreases-loop
+number-at-requires-2 c κs = let i = c.before.before.before in let a = start i in omega (arith, inside i, low a, a.requires.0)
 
-magnitude-requires-2 : tie.Need-magnitude-requires-2 invariant-loop decreases-loop
+magnitude-requires-2 : tie.Need-magnitude-requires invariant-loop decreases-loop
 magnitude-requires-2 c κs = search rules
 
-add_row : tie.Need-overflow-add-row invariant-loop decreases-loop
+add_row : tie.Need-overflow_add-row invariant-loop decreases-loop
 add_row c = record { fits = omega (arith, row_room (there c), next_small c) }
 
-loop-less : tie.Need-loop-smaller invariant-loop decreases-loop
+loop-less : tie.Need-loop-p-smaller invariant-loop decreases-loop
 loop-less c = search rules
 
-loop-again : tie.Need-loop-preserved invariant-loop decreases-loop
+loop-again : tie.Need-loop-p-preserved invariant-loop decreases-loop
 loop-again c =
     let i = turn c in
     let a = s c in (
@@ -181,53 +181,34 @@ loop-again c =
     )
 
 -- ════ at the end all of the row is taken
-module _ (c : tie.After-loop invariant-loop decreases-loop) where
+module _ (c : tie.After-loop-p invariant-loop decreases-loop) where
   abbrev origin : tie.Start invariant-loop decreases-loop
   origin = first c.before.before
 
-  row-all : c.before.loop.row ≡ all origin
+  row-all : c.before.loop-p.row ≡ all origin
   row-all =
-      let e : c.before.loop.p ≡ 0 = omega arith in
-      c.before.loop.invariant.1 ∙ ap (from origin) e ∙ down-all nats ◌*◌ (sizes (l origin) (q origin)) (r origin) (last origin)
+      let e : c.before.loop-p.p ≡ 0 = omega arith in
+      c.before.loop-p.invariant.1 ∙ ap (from origin) e ∙ down-all nats ◌*◌ (sizes (l origin) (q origin)) (r origin) (last origin)
 
   sum_room : product origin ≤ cap
   sum_room = room c.before.before.before.before
 
-returns-3 : tie.Need-returns-3 invariant-loop decreases-loop
+returns-3 : tie.Need-returns-then-row-gt-CAP invariant-loop decreases-loop
 returns-3 c = let a = origin c.before in joint-second (product a) (all a) (omega (arith, row-all c.before))
 
-mul-t15 : tie.Need-overflow-mul-t15 invariant-loop decreases-loop
+mul-t15 : tie.Need-overflow_mul-result invariant-loop decreases-loop
 mul-t15 c = record { fits = omega (arith, sum_room c.before.before) }
 
-add-t16 : tie.Need-overflow-add-t16 invariant-loop decreases-loop
+add-t16 : tie.Need-overflow_add-result invariant-loop decreases-loop
 add-t16 c = record { fits = omega (arith, sum_room c.before.before) }
 
-returns-4 : tie.Need-returns-4 invariant-loop decreases-loop
+returns-4 : tie.Need-returns invariant-loop decreases-loop
 returns-4 c =
     let e = c.before.before in
     let a = origin e in
     ap (λ m. Within (product a + m)) (row-all e) ∙ joint-within (product a) (all a) (sum_room e) (omega (arith, row-all e))
 
-pub add-row-spec : {M : Type 1} → statement M
-add-row-spec =
+pub add_row_spec : {M : Type 1} → statement M
+add_row_spec =
     tie.close
-    (tie.spec
-    invariant-loop
-    decreases-loop
-    returns
-    sub-p
-    number-at-requires
-    magnitude-requires
-    loop-holds
-    returns-2
-    sub-p-2
-    mul-row
-    number-at-requires-2
-    magnitude-requires-2
-    add_row
-    loop-less
-    loop-again
-    returns-3
-    mul-t15
-    add-t16
-    returns-4)
+    (tie.spec invariant-loop decreases-loop returns sub-p number-at-requires magnitude-requires loop-holds returns-2 sub-p-2 mul-row number-at-requires-2 magnitude-requires-2 add_row loop-less loop-again returns-3 mul-t15 add-t16 returns-4)

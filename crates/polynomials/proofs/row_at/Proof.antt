@@ -20,11 +20,11 @@ use Rattle.polynomials.proofs.DownwardBounds.{number_size, row-light, product-fi
 use Rattle.polynomials.proofs.row_at.Statement.{statement}
 use Rattle.polynomials.proofs.row_at.Tie as tie
 
-abbrev invariant-loop : tie.invariant-loop
+abbrev invariant-loop : tie.invariant-loop-p
 invariant-loop group q x p₀ row₀ p row =
     (p ≤ highest_degree - q) × (to_z w64 row ≡ down ints ◌*ℤ◌ (λ i. number ints group i q) (to_z w64 x) (highest_degree - q - p) p)
 
-abbrev decreases-loop : tie.decreases-loop
+abbrev decreases-loop : tie.decreases-loop-p
 decreases-loop group q x p₀ row₀ p row = p
 
 -- ════ at the start
@@ -64,60 +64,60 @@ module _ (c : tie.Start invariant-loop decreases-loop) where
   next = next_fits number_of _ x r (λ p. number_size highest_degree l p q) (N.le-max_right 1 (nat_abs x)) last (N.le-max_left 1 (nat_abs x)) light
 
 -- ════ at a turn, which takes the power one below
-module _ (c : tie.In-loop invariant-loop decreases-loop) where
+module _ (c : tie.In-loop-p invariant-loop decreases-loop) where
   abbrev start : tie.Start invariant-loop decreases-loop
   start = c.before.before.before
 
   abbrev p : ℕ
-  p = c.before.loop.p - 1
+  p = c.before.loop-p.p - 1
 
   inside : p < last start
   inside = omega arith
 
-  row_is : to_z w64 c.before.loop.row ≡ row start (p + 1)
-  row_is = let e : c.before.loop.p ≡ p + 1 = omega arith in c.before.loop.invariant.1 ∙ ap (row start) e
+  row_is : to_z w64 c.before.loop-p.row-bits ≡ row start (p + 1)
+  row_is = let e : c.before.loop-p.p ≡ p + 1 = omega arith in c.before.loop-p.invariant.1 ∙ ap (row start) e
 
-  product_is : to_z w64 (of_z w64 (to_z w64 c.before.loop.row *ℤ x start)) ≡ row start (p + 1) *ℤ x start
+  product_is : to_z w64 (of_z w64 (to_z w64 c.before.loop-p.row-bits *ℤ x start)) ≡ row start (p + 1) *ℤ x start
   product_is = op-back ◌*ℤ◌ row_is refl (product start p inside)
 
-module _ (c : tie.After-number-at2 invariant-loop decreases-loop) where
-  abbrev turn : tie.In-loop invariant-loop decreases-loop
+module _ (c : tie.After-number_at invariant-loop decreases-loop) where
+  abbrev turn : tie.In-loop-p invariant-loop decreases-loop
   turn = c.before
 
   abbrev s : tie.Start invariant-loop decreases-loop
   s = start turn
 
-  number_is : to_z w64 (of_z w64 c.number-at2.result) ≡ number_of s (p turn)
-  number_is = to_z-of_z (sfits_of {z = c.number-at2.result} c.number-at2.type-inv) ∙ c.number-at2.ensures
+  number_is : to_z w64 (of_z w64 c.number_at.result) ≡ number_of s (p turn)
+  number_is = to_z-of_z {w = w64} (sfits_of {z = c.number_at.result} c.number_at.type_inv) ∙ c.number_at.ensures
 
-sub-p : tie.Need-overflow-sub-p invariant-loop decreases-loop
+sub-p : tie.Need-overflow_sub-p invariant-loop decreases-loop
 sub-p c = search rules
 
-number-at-requires : tie.Need-number-at-requires invariant-loop decreases-loop
+number-at-requires : tie.Need-number_at-row-requires invariant-loop decreases-loop
 number-at-requires c κs = omega (arith, c.requires.1)
 
-loop-holds : tie.Need-loop-init invariant-loop decreases-loop
+loop-holds : tie.Need-loop-p-init invariant-loop decreases-loop
 loop-holds c = (
   N.le_refl _,
-  to_z-of_z (sfits_of {z = c.number_at.result} c.number_at.type-inv) ∙ c.number_at.ensures ∙ sym (down-start ints ◌*ℤ◌ _ _ (last c.before)),
+  to_z-of_z {w = w64} (sfits_of {z = c.number_at-row.result} c.number_at-row.type_inv) ∙ c.number_at-row.ensures ∙ sym (down-start ints ◌*ℤ◌ _ _ (last c.before)),
 )
 
-sub-p-2 : tie.Need-overflow-sub-p-2 invariant-loop decreases-loop
+sub-p-2 : tie.Need-overflow_sub-p-in-loop-p invariant-loop decreases-loop
 sub-p-2 c = search rules
 
-mul-row : tie.Need-overflow-mul-row invariant-loop decreases-loop
+mul-row : tie.Need-overflow_mul-row invariant-loop decreases-loop
 mul-row c = op-bits ◌*ℤ◌ (row_is c) refl (product (start c) (p c) (inside c))
 
-number-at-requires-2 : tie.Need-number-at-requires-2 invariant-loop decreases-loop
+number-at-requires-2 : tie.Need-number_at-requires invariant-loop decreases-loop
 number-at-requires-2 c κs = omega (arith, inside c)
 
-add_row : tie.Need-overflow-add-row invariant-loop decreases-loop
+add_row : tie.Need-overflow_add-row invariant-loop decreases-loop
 add_row c = op-bits ◌+ℤ◌ (product_is (turn c)) (number_is c) (next (s c) (p (turn c)) (inside (turn c)))
 
-loop-less : tie.Need-loop-smaller invariant-loop decreases-loop
+loop-less : tie.Need-loop-p-smaller invariant-loop decreases-loop
 loop-less c = search rules
 
-loop-again : tie.Need-loop-preserved invariant-loop decreases-loop
+loop-again : tie.Need-loop-p-preserved invariant-loop decreases-loop
 loop-again c = (
   N.le_of_lt (inside (turn c)),
   op-back ◌+ℤ◌ (product_is (turn c)) (number_is c) (next (s c) (p (turn c)) (inside (turn c)))
@@ -127,23 +127,11 @@ loop-again c = (
 returns : tie.Need-returns invariant-loop decreases-loop
 returns c =
     let a = c.before.before.before in
-    let e : c.before.loop.p ≡ 0 = omega arith in
-    c.before.loop.invariant.1 ∙ ap (row a) e ∙ down-all ints ◌*ℤ◌ (number_of a) (x a) (last a)
+    let e : c.before.loop-p.p ≡ 0 = omega arith in
+    c.before.loop-p.invariant.1 ∙ ap (row a) e ∙ down-all ints ◌*ℤ◌ (number_of a) (x a) (last a)
     ∙ ap (λ z. row_downward ints ◌*ℤ◌ highest_degree (number ints (l a)) z (q a)) (to_z-of_z a.ranges.x)
 
-pub row-at-spec : {M : Type 1} → statement M
-row-at-spec =
+pub row_at_spec : {M : Type 1} → statement M
+row_at_spec =
     tie.close
-    (tie.spec
-    invariant-loop
-    decreases-loop
-    sub-p
-    number-at-requires
-    loop-holds
-    sub-p-2
-    mul-row
-    number-at-requires-2
-    add_row
-    loop-less
-    loop-again
-    returns)
+    (tie.spec invariant-loop decreases-loop sub-p number-at-requires loop-holds sub-p-2 mul-row number-at-requires-2 add_row loop-less loop-again returns)

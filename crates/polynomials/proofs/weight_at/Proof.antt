@@ -13,10 +13,10 @@ use Rattle.polynomials.proofs.DownwardBounds.{rows_weight, rows_none, rows_more,
 use Rattle.polynomials.proofs.weight_at.Statement.{statement}
 use Rattle.polynomials.proofs.weight_at.Tie as tie
 
-abbrev invariant-loop : tie.invariant-loop
+abbrev invariant-loop : tie.invariant-loop-rows
 invariant-loop group degree u v sum₀ rows₀ sum rows = (rows ≤ degree + 1) × (sum ≡ rows_weight degree group u.size v.size rows)
 
-abbrev decreases-loop : tie.decreases-loop
+abbrev decreases-loop : tie.decreases-loop-rows
 decreases-loop group degree u v sum₀ rows₀ sum rows = rows
 
 abbrev rest : tie.Start invariant-loop decreases-loop → ℕ → ℕ
@@ -26,18 +26,18 @@ abbrev all : tie.Start invariant-loop decreases-loop → ℕ
 all a = weight a.args.group.now a.args.u.size a.args.v.size
 
 -- ════ one row more
-module _ (c : tie.After-add-row invariant-loop decreases-loop) where
-  abbrev here : tie.At-loop invariant-loop decreases-loop
+module _ (c : tie.After-add_row invariant-loop decreases-loop) where
+  abbrev here : tie.At-loop-rows invariant-loop decreases-loop
   here = c.before.before
 
   abbrev start : tie.Start invariant-loop decreases-loop
   start = here.before
 
   abbrev q : ℕ
-  q = here.loop.rows - 1
+  q = here.loop-rows.rows - 1
 
   abbrev product : ℕ
-  product = here.loop.sum * start.args.v.size
+  product = here.loop-rows.sum * start.args.v.size
 
   abbrev row : ℕ
   row = row_weight start.args.degree start.args.group.now start.args.u.size q
@@ -48,69 +48,56 @@ module _ (c : tie.After-add-row invariant-loop decreases-loop) where
   -- what was asked comes to the rows from q on
   more-is : product + row ≡ rest start q
   more-is =
-      let e : here.loop.rows ≡ q + 1 = omega arith in
-      rows_more start.args.degree start.args.group.now start.args.u.size start.args.v.size q (omega arith) (here.loop.inv.1 ∙ ap (rest start) e)
+      let e : here.loop-rows.rows ≡ q + 1 = omega arith in
+      rows_more start.args.degree start.args.group.now start.args.u.size start.args.v.size q (omega arith) (here.loop-rows.invariant.1 ∙ ap (rest start) e)
 
-add-rows : tie.Need-overflow-add-rows invariant-loop decreases-loop
+add-rows : tie.Need-overflow_add-rows invariant-loop decreases-loop
 add-rows c = omega (arith, c.requires.low)
 
-loop-holds : tie.Need-loop-init invariant-loop decreases-loop
+loop-holds : tie.Need-loop-rows-init invariant-loop decreases-loop
 loop-holds c = (omega arith, sym (rows_none c.args.degree c.args.group.now c.args.u.size c.args.v.size c.requires.few))
 
-sub-rows : tie.Need-overflow-sub-rows invariant-loop decreases-loop
+sub-rows : tie.Need-overflow_sub-rows invariant-loop decreases-loop
 sub-rows c = search rules
 
-add-row-requires : tie.Need-add-row-requires invariant-loop decreases-loop
+add-row-requires : tie.Need-add_row-requires invariant-loop decreases-loop
 add-row-requires c κs = let a = c.before.before in (omega arith, (a.requires.low, (a.requires.first, a.requires.second)))
 
-enum-known-more : tie.Need-enum-known-more invariant-loop decreases-loop
+enum-known-more : tie.Need-enum_known-more invariant-loop decreases-loop
 enum-known-more c = search rules
 
-enum_told : tie.Need-enum-told invariant-loop decreases-loop
+enum_told : tie.Need-enum_told-1 invariant-loop decreases-loop
 enum_told c = search rules
 
-returns : tie.Need-returns invariant-loop decreases-loop
+returns : tie.Need-returns-in_default invariant-loop decreases-loop
 returns c =
-    let d = c.before.before in
+    let d = c.before in
     let a = start d in
-    let h : cap < product d + row d = passed-joint (product d) (row d) (sym c.enum_told.given.1 ∙ result-is d) in
-    against-passed (all a) (omega (arith, more-is d, rows-part a.args.degree a.args.group.now a.args.u.size a.args.v.size a.pre.few a.pre.second.one (q d) (omega arith)))
+    let h : cap < product d + row d = passed-joint (product d) (row d) c.in_default.ensures in
+    against-passed (all a) (omega (arith, more-is d, rows-part a.args.degree a.args.group.now a.args.u.size a.args.v.size a.requires.few a.requires.second.one (q d) (omega arith)))
 
-loop-less : tie.Need-loop-smaller invariant-loop decreases-loop
+loop-less : tie.Need-loop-rows-smaller invariant-loop decreases-loop
 loop-less c = search rules
 
-loop-again : tie.Need-loop-preserved invariant-loop decreases-loop
+loop-again : tie.Need-loop-rows-preserved invariant-loop decreases-loop
 loop-again c =
-    let d = c.before.before.before in
-    (omega arith, within-joint (product d) (row d) c.before.more.given.0.0 (sym c.before.more.given.1 ∙ result-is d) ∙ more-is d)
+    let d = c.before in
+    (omega arith, within-joint (product d) (row d) c.in-Within.more c.in-Within.ensures ∙ more-is d)
 
 -- at the end all of the rows are taken
-total : (c : tie.After-loop invariant-loop decreases-loop) → c.before.loop.sum ≡ all c.before.before
+total : (c : tie.After-loop-rows invariant-loop decreases-loop) → c.before.loop-rows.sum ≡ all c.before.before
 total c =
     let a = c.before.before in
-    let e : c.before.loop.rows ≡ 0 = omega arith in
-    c.before.loop.invariant.1 ∙ ap (rest a) e ∙ rows_all a.args.degree a.args.group.now a.args.u.size a.args.v.size a.requires.few
+    let e : c.before.loop-rows.rows ≡ 0 = omega arith in
+    c.before.loop-rows.invariant.1 ∙ ap (rest a) e ∙ rows_all a.args.degree a.args.group.now a.args.u.size a.args.v.size a.requires.few
 
-returns-2 : tie.Need-returns-2 invariant-loop decreases-loop
-returns-2 c = against-passed _ c.if1.true ∙ ap against (total c.before)
+returns-2 : tie.Need-returns-then-sum-gt-CAP invariant-loop decreases-loop
+returns-2 c = against-passed _ c.if-sum-gt-CAP.true ∙ ap against (total c.before)
 
-returns-3 : tie.Need-returns-3 invariant-loop decreases-loop
-returns-3 c = against-within _ c.if1.false ∙ ap against (total c.before)
+returns-3 : tie.Need-returns invariant-loop decreases-loop
+returns-3 c = against-within _ c.if-sum-gt-CAP.false ∙ ap against (total c.before)
 
-pub weight-at-spec : {M : Type 1} → statement M
-weight-at-spec =
+pub weight_at_spec : {M : Type 1} → statement M
+weight_at_spec =
     tie.close
-    (tie.spec
-    invariant-loop
-    decreases-loop
-    add-rows
-    loop-holds
-    sub-rows
-    add-row-requires
-    enum-known-more
-    enum_told
-    returns
-    loop-less
-    loop-again
-    returns-2
-    returns-3)
+    (tie.spec invariant-loop decreases-loop add-rows loop-holds sub-rows add-row-requires enum-known-more enum_told returns loop-less loop-again returns-2 returns-3)
