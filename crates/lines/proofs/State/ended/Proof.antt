@@ -34,7 +34,7 @@ returns-3 c =
     let beta : to_z w64 (of_z w64 s.beta) ≡ s.beta = search rules in
     let xi : to_z w64 (of_z w64 s.xi) ≡ s.xi = search rules in
     let eta : to_z w64 (of_z w64 s.eta) ≡ s.eta = search rules in
-    let last : to_z w64 (of_z w64 c.before.number.result) ≡ number_of s.minus s.digits = to_z-of_z (sfits_of {z = c.before.number.result} c.before.number.type_inv) ∙ c.before.number.ensures in
+    let last : to_z w64 (of_z w64 c.before.number.result) ≡ number_of s.minus s.digits = to_z-of_z {w = w64} (sfits_of {z = c.before.number.result} c.before.number.type_inv) ∙ c.before.number.ensures in
     simp (le-ltb _ _ c.before.before.before.before.before.if-self-lt-ONE_DIGIT.false, lt-leb _ _ c.before.before.before.if-self-ge4.false, beta, xi, eta, last)
 
 pub ended_spec : {M : Type 1} → statement M

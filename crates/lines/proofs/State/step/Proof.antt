@@ -22,7 +22,7 @@ is_digit_lem b h e = ap₂ ◌&&◌ (le-leb 48 b h) e
 no_digit_lem : (c : tie.Joined-else-byte-ge48) → is_digit c.before.args.byte ≡ false
 no_digit_lem c =
     let b = c.before.args.byte in
-    ⊎_elim (λ w. ap₂ ◌&&◌ (le-leb 48 b w.0.taken) w.1.left) (λ w. ap (λ t. t && leb b 57) (lt-leb 48 b w.left)) c.else-byte-ge48.branch
+    ⊎_elim (λ w. ap₂ ◌&&◌ (le-leb 48 b w.0) (lt-leb b 57 w.1)) (λ w. ap (λ t. t && leb b 57) (lt-leb 48 b w)) c.else-byte-ge48.either
 
 cast-digit : tie.Need-overflow_cast-digit
 cast-digit c = search rules
