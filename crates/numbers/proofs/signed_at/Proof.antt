@@ -30,66 +30,58 @@ minus-fits n h = rw (+ℤ_idl, plain-read n h) (negation-fits n h)
 minus-read : (n : ℕ) → n < least → to_z w64 (of_z w64 (pos 0 -ℤ to_z w64 n)) ≡ neg_ℤ (pos n)
 minus-read n h = to_z-of_z (minus-fits n h) ∙ +ℤ_idl (neg_ℤ (to_z w64 n)) ∙ ap neg_ℤ (plain-read n h)
 
-signless-at-requires : tie.Need-signless-at-requires
+signless-at-requires : tie.Need-signless_at-value-requires
 signless-at-requires c κs = search rules
 
-minus-at-requires : tie.Need-minus-at-requires
+minus-at-requires : tie.Need-minus_at-requires
 minus-at-requires c κs = search rules
 
 -- the word's magnitude, its bound and its sign
-module _ (c : tie.After-minus-at) where
+module _ (c : tie.After-minus_at) where
   abbrev word : List ℕ
   word = word_at c.before.before.before.args.line.now c.before.before.before.args.k
 
   abbrev n : ℕ
-  n = c.before.signless-at.result.value
+  n = c.before.signless_at-value.result.value
 
   value : n ≡ (signless word).value
-  value = ap (λ m. m.value) c.before.signless-at.ensures
+  value = ap (λ m. m.value) c.before.signless_at-value.ensures
 
-  bound : (t : Bool) → c.minus-at.result ≡ t → n ≤ cond t least (least - 1)
+  bound : (t : Bool) → c.minus_at.result ≡ t → n ≤ cond t least (least - 1)
   bound t e =
       subst⁻¹ (λ m. m ≤ cond t least (least - 1)) value
-      (subst (λ t. (signless word).value ≤ cond t least (least - 1)) (sym c.minus-at.ensures ∙ e) (signless-within word))
+      (subst (λ t. (signless word).value ≤ cond t least (least - 1)) (sym c.minus_at.ensures ∙ e) (signless-within word))
 
-  whole : (t : Bool) → c.minus-at.result ≡ t → signed t n ≡ signed_of word
+  whole : (t : Bool) → c.minus_at.result ≡ t → signed t n ≡ signed_of word
   unfolding magnitude
-  whole t e = ap (signed t) value ∙ ap (λ t. signed t (signless word).value) (sym e ∙ c.minus-at.ensures)
+  whole t e = ap (signed t) value ∙ ap (λ t. signed t (signless word).value) (sym e ∙ c.minus_at.ensures)
 
-returns : tie.Need-returns
+returns : tie.Need-returns-then-value-ge-LEAST
 returns c =
     let d = c.before.before in
-    let e : least ≡ n d = omega (arith, bound d true c.before.if1.true, c.if2.true) in
-    ap (λ m. neg_ℤ (pos m)) e ∙ whole d true c.before.if1.true
+    let e : least ≡ n d = omega (arith, bound d true c.before.if-minus_at.true, c.if-value-ge-LEAST.true) in
+    ap (λ m. neg_ℤ (pos m)) e ∙ whole d true c.before.if-minus_at.true
 
-cast-result : tie.Need-overflow-cast-result
+cast-result : tie.Need-overflow_cast-result
 cast-result c = search rules
 
-sub-result : tie.Need-overflow-sub-result
-sub-result c = minus-fits (n c.before.before) c.if2.false
+sub-result : tie.Need-overflow_sub-result
+sub-result c = minus-fits (n c.before.before) c.if-value-ge-LEAST.false
 
-returns-2 : tie.Need-returns-2
-returns-2 c = let d = c.before.before in minus-read (n d) c.if2.false ∙ whole d true c.before.if1.true
+returns-2 : tie.Need-returns-then-minus_at
+returns-2 c = let d = c.before.before in minus-read (n d) c.if-value-ge-LEAST.false ∙ whole d true c.before.if-minus_at.true
 
 -- the bound of a number without a minus
-small : (c : tie.Else1) → n c.before < least
-small c = omega (arith, bound c.before false c.if1.false)
+small : (c : tie.Else-minus_at) → n c.before < least
+small c = omega (arith, bound c.before false c.if-minus_at.false)
 
-cast-result-2 : tie.Need-overflow-cast-result-2
+cast-result-2 : tie.Need-overflow_cast-result-2
 cast-result-2 c = omega (arith, small c)
 
-returns-3 : tie.Need-returns-3
-returns-3 c = plain-read (n c.before) (small c) ∙ whole c.before false c.if1.false
+returns-3 : tie.Need-returns
+returns-3 c = plain-read (n c.before) (small c) ∙ whole c.before false c.if-minus_at.false
 
-pub signed-at-spec : {M : Type 1} → statement M
-signed-at-spec =
+pub signed_at_spec : {M : Type 1} → statement M
+signed_at_spec =
     tie.close
-    (tie.spec
-    signless-at-requires
-    minus-at-requires
-    returns
-    cast-result
-    sub-result
-    returns-2
-    cast-result-2
-    returns-3)
+    (tie.spec signless-at-requires minus-at-requires returns cast-result sub-result returns-2 cast-result-2 returns-3)
