@@ -26,7 +26,7 @@ use tables::soundness::refusal_of;
 // What the door gives back: its number, the reading where that is outside its limits and positive zero otherwise, and the floats of
 // X, Y, Z, l, m and n.
 #[repr(C)]
-#[derive(Drop)]
+#[derive(Clone, Copy)]
 pub struct Answer {
     pub number: u64,
     pub reading: f64,

@@ -11,7 +11,7 @@ ghost use Rattle.rounding.specs.Ready.{farthest_end, farthest_near, Near};
 ghost use Rattle.rounding.specs.Answer.{float_of};
 
 // What one float reading is, within a lowest and a highest whole number.
-#[derive(Drop)]
+#[derive(Clone, Copy)]
 pub enum Step {
     Whole(i64),
     NotFinite,
