@@ -7,21 +7,21 @@ use Rattle.printing.proofs.Words.{eight-bytes, unpacked-packed}
 use Rattle.printing.proofs.put_eight.Statement.{statement}
 use Rattle.printing.proofs.put_eight.Tie as tie
 
-eight-bytes-requires : tie.Need-eight-bytes-requires
+eight-bytes-requires : tie.Need-eight_bytes-requires
 eight-bytes-requires c κs = search rules
 
-put-bytes-requires : tie.Need-put-bytes-requires
+put-bytes-requires : tie.Need-put_bytes-requires
 put-bytes-requires c κs = search rules
 
-same_length : tie.Need-same-length
+same_length : tie.Need-shape_of-out
 same_length c = search rules
 
 returns : tie.Need-returns
 returns c =
     let a = c.before.before.before.before.before.before.args in
-    c.before.before.put-bytes.ensures
-    ∙ ap (λ w. sets a.out.now a.at (unpacked 8 w)) c.before.before.before.before.eight-bytes.ensures
+    c.before.before.put_bytes.ensures
+    ∙ ap (λ w. sets a.out.now a.at (unpacked 8 w)) c.before.before.before.before.eight_bytes.ensures
     ∙ ap (sets a.out.now a.at) (unpacked-packed (eight a.n) (eight-bytes a.n))
 
-pub put-eight-spec : {M : Type 1} → statement M
-put-eight-spec = tie.close (tie.spec eight-bytes-requires put-bytes-requires same_length returns)
+pub put_eight_spec : {M : Type 1} → statement M
+put_eight_spec = tie.close (tie.spec eight-bytes-requires put-bytes-requires same_length returns)

@@ -1,7 +1,6 @@
 -- `printing::put_number` meets its contract: the minus stands before the digits of the magnitude, of which there are at most 19.
 -- Assumes nothing.
 use mathlib.Core.Path.{◌≡◌, refl, sym, ap, subst, ◌∙◌}
-use mathlib.Core.Logic.{⊎_elim}
 use mathlib.Core.List.{List, ◌∷◌}
 use Prim.Native.Nat.{ℕ, ◌+◌, ◌≤◌}
 use native.Mathlib.Omega.{arith}
@@ -19,6 +18,7 @@ use Rattle.printing.proofs.Digits.{decimal-short}
 use Rattle.printing.proofs.Writing.{written-cons}
 use Rattle.printing.proofs.put_number.Statement.{statement}
 use Rattle.printing.proofs.put_number.Tie as tie
+use Rattle.printing.proofs.put_number.Lts.{then-x-lt0, else-x-lt0}
 
 spell-below : (x : ℤ) → x <ℤ pos 0 → spell x ≡ 45 ∷ decimal (nat_abs x)
 spell-below (pos n) h = absurd (omega (arith, ltb→lt n 0 h.lt))
@@ -54,53 +54,46 @@ module _ (out₀ : List ℕ) (at : ℕ) (x : ℤ) (room : at + longest_number �
   same {out'} {start'} {n'} out start n e f g r =
       subst (λ o. Ready out₀ at x o start n) (sym e) (subst (λ i. Ready out₀ at x out' i n) (sym f) (subst (Ready out₀ at x out' start') (sym g) r))
 
-abbrev begin : tie.Joined1 → tie.Start
+abbrev begin : tie.Joined-x-lt0 → tie.Start
 begin j = j.before.before
 
-ready : (j : tie.Joined1) → Ready (begin j).args.out.now (begin j).args.at (begin j).args.x j.if1.out j.if1.start j.if1.n
+ready : (j : tie.Joined-x-lt0) → Ready (begin j).args.out.now (begin j).args.at (begin j).args.x j.if-x-lt0.out j.if-x-lt0.start j.if-x-lt0.n
 ready j =
     let a = (begin j).args in
     let f = (begin j).ranges.x in
     let read = ap nat_abs (to_z-of_z f) in
-    ⊎_elim
-    (λ w. same a.out.now a.at a.x (begin j).requires f j.if1.out j.if1.start j.if1.n w.2 w.3 (w.4 ∙ w.1.ensures ∙ read) (behind-minus a.out.now a.at a.x (begin j).requires f (lt-taken f (sfits_lit tt) w.0.taken)))
-    (λ w. same a.out.now a.at a.x (begin j).requires f j.if1.out j.if1.start j.if1.n w.1 w.2 (w.3 ∙ read) (without a.out.now a.at a.x (begin j).requires f (lt-left f (sfits_lit tt) w.0.left)))
-    j.if1.branch
+    elim j.if-x-lt0.branch [
+      then-x-lt0 w ↦ same a.out.now a.at a.x (begin j).requires f j.if-x-lt0.out j.if-x-lt0.start j.if-x-lt0.n w.out-is w.start-is (w.n-is ∙ w.magnitude-n.ensures ∙ read) (behind-minus a.out.now a.at a.x (begin j).requires f (lt-taken f (sfits_lit tt) w.if-x-lt0.true))
+    | else-x-lt0 w ↦ same a.out.now a.at a.x (begin j).requires f j.if-x-lt0.out j.if-x-lt0.start j.if-x-lt0.n w.out-is w.start-is (w.n-is ∙ read) (without a.out.now a.at a.x (begin j).requires f (lt-left f (sfits_lit tt) w.if-x-lt0.false))
+    ]
 
-slice-write-out : tie.Need-slice-write-out
+slice-write-out : tie.Need-bounds-out-at
 slice-write-out c = search rules
 
-add_start : tie.Need-overflow-add-start
+add_start : tie.Need-overflow_add-start
 add_start c = search rules
 
-magnitude-requires : tie.Need-magnitude-requires
+magnitude-requires : tie.Need-magnitude-n-requires
 magnitude-requires c κs = search rules
 
-cast-n : tie.Need-overflow-cast-n
+cast-n : tie.Need-overflow_cast-n
 cast-n c =
     let f = c.before.before.ranges.x in
-    simp (to_z-of_z, f) (yes_non_neg (lt-left f (sfits_lit tt) c.if1.false), Fits-nat_abs tt f)
+    simp (to_z-of_z, f) (yes_non_neg (lt-left f (sfits_lit tt) c.if-x-lt0.false), Fits-nat_abs tt f)
 
-put-digits-requires : tie.Need-put-digits-requires
+put-digits-requires : tie.Need-put_digits-requires
 put-digits-requires c κs = (ready c.before).room
 
-same_length : tie.Need-same-length
-same_length c = let j = c.before.before.before.before in c.before.before.put-digits.auto.1.0 ∙ (ready j).as_long
+same_length : tie.Need-shape_of-out
+same_length c = let j = c.before.before.before.before in c.before.before.put_digits.auto.out ∙ (ready j).as_long
 
 returns : tie.Need-returns
 returns c =
     let j = c.before.before.before.before in
-    let digits = c.before.before.put-digits in
+    let digits = c.before.before.put_digits in
     (digits.ensures.0 ∙ (ready j).place, digits.ensures.1 ∙ (ready j).whole)
 
-pub put-number-spec : {M : Type 1} → statement M
-put-number-spec =
+pub put_number_spec : {M : Type 1} → statement M
+put_number_spec =
     tie.close
-    (tie.spec
-    slice-write-out
-    add_start
-    magnitude-requires
-    cast-n
-    put-digits-requires
-    same_length
-    returns)
+    (tie.spec slice-write-out add_start magnitude-requires cast-n put-digits-requires same_length returns)
