@@ -7,5 +7,5 @@ use Rattle.shapes.proofs.gtm_kind.Tie as tie
 returns : tie.Need-returns
 returns c = own-twice Gtm c.args.group c.requires
 
-pub gtm-kind-spec : {M : Type 1} → statement M
-gtm-kind-spec = tie.close (tie.spec returns)
+pub gtm_kind_spec : {M : Type 1} → statement M
+gtm_kind_spec = tie.close (tie.spec returns)

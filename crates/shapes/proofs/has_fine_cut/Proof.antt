@@ -10,11 +10,11 @@ some : (b : Bool) → ltb 0 (cond b 1 0) ≡ b
 some true = refl
 some false = refl
 
-fine-cuts-requires : tie.Need-fine-cuts-requires
+fine-cuts-requires : tie.Need-fine_cuts-requires
 fine-cuts-requires c κs = tt
 
 returns : tie.Need-returns
-returns c = ap (ltb 0) c.fine-cuts.ensures ∙ some (shape c.before.args.model).has_fine_cut
+returns c = ap (ltb 0) c.fine_cuts.ensures ∙ some (shape c.before.args.model).has_fine_cut
 
-pub has-fine-cut-spec : {M : Type 1} → statement M
-has-fine-cut-spec = tie.close (tie.spec fine-cuts-requires returns)
+pub has_fine_cut_spec : {M : Type 1} → statement M
+has_fine_cut_spec = tie.close (tie.spec fine-cuts-requires returns)

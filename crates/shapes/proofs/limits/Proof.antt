@@ -5,19 +5,19 @@ use borrow.Author.Rules.{rules}
 use Rattle.shapes.proofs.limits.Statement.{statement}
 use Rattle.shapes.proofs.limits.Tie as tie
 
-enum_told : tie.Need-enum-told
+enum_told : tie.Need-enum_told-1
 enum_told c = search rules
 
-enum-told-2 : tie.Need-enum-told-2
+enum-told-2 : tie.Need-enum_told-in-Gtm
 enum-told-2 c = search rules
 
-returns : tie.Need-returns
+returns : tie.Need-returns-in-Cumulus
 unfolding kinds_length below
 returns c = cc
 
-returns-2 : tie.Need-returns-2
+returns-2 : tie.Need-returns-in-Gtm
 unfolding kinds_length below
 returns-2 c = cc
 
-pub limits-spec : {M : Type 1} → statement M
-limits-spec = tie.close (tie.spec enum_told enum-told-2 returns returns-2)
+pub limits_spec : {M : Type 1} → statement M
+limits_spec = tie.close (tie.spec enum_told enum-told-2 returns returns-2)

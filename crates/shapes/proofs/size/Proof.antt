@@ -17,17 +17,17 @@ most d h =
     let b : d + 1 + 1 ≤ highest_degree + 2 = omega arith in
     N.mul-le-mul a b
 
-add-n : tie.Need-overflow-add-n
+add-n : tie.Need-overflow_add-n
 add-n c = search rules
 
-add-result : tie.Need-overflow-add-result
+add-result : tie.Need-overflow_add-result
 add-result c = search rules
 
-mul-result : tie.Need-overflow-mul-result
+mul-result : tie.Need-overflow_mul-result
 mul-result c = record { fits = omega (arith, most c.before.args.kind.degree c.before.requires) }
 
 returns : tie.Need-returns
 returns c = let d = c.before.args.kind.degree in below-is (d + 1) ∙ ap below (add-one d)
 
-pub size-spec : {M : Type 1} → statement M
-size-spec = tie.close (tie.spec add-n add-result mul-result returns)
+pub size_spec : {M : Type 1} → statement M
+size_spec = tie.close (tie.spec add-n add-result mul-result returns)

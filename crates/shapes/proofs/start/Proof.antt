@@ -24,11 +24,11 @@ limits-requires c κs = search rules
 block-requires : tie.Need-block-requires
 block-requires c κs = search rules
 
-mul-result : tie.Need-overflow-mul-result
-mul-result c = let a = start c in omega (arith, start_is c, inside (shape a.args.model) a.args.index a.pre, few-table a.args.model)
+mul-result : tie.Need-overflow_mul-result
+mul-result c = let a = start c in omega (arith, start_is c, inside (shape a.args.model) a.args.index a.requires, few-table a.args.model)
 
-add-result : tie.Need-overflow-add-result
-add-result c = let a = start c in omega (arith, start_is c, inside (shape a.args.model) a.args.index a.pre, few-table a.args.model)
+add-result : tie.Need-overflow_add-result
+add-result c = let a = start c in omega (arith, start_is c, inside (shape a.args.model) a.args.index a.requires, few-table a.args.model)
 
 returns : tie.Need-returns
 returns c = start_is c
