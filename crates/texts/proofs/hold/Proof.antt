@@ -16,20 +16,20 @@ said : (line : List ℕ) (held byte : ℕ) {b : Bool} → leb longest_line held 
 said line held byte h =
     (ap (λ b. cond b (longest_line + 1) (held + 1)) (sym h), ap (λ b. cond b line (set line held byte)) (sym h))
 
-add-result : tie.Need-overflow-add-result
+add-result : tie.Need-overflow_add-result
 add-result c = search rules
 
-returns : tie.Need-returns
-returns c = said c.before.args.line.now c.before.args.held c.before.args.byte (le-leb longest_line c.before.args.held c.if1.true)
+returns : tie.Need-returns-then-held-ge-LINE
+returns c = said c.before.args.line.now c.before.args.held c.before.args.byte (le-leb longest_line c.before.args.held c.if-held-ge-LINE.true)
 
-element-write-line : tie.Need-element-write-line
+element-write-line : tie.Need-bounds-line-held
 element-write-line c = search rules
 
-add-result-2 : tie.Need-overflow-add-result-2
+add-result-2 : tie.Need-overflow_add-result-2
 add-result-2 c = search rules
 
-returns-2 : tie.Need-returns-2
-returns-2 c = said c.before.args.line.now c.before.args.held c.before.args.byte (lt-leb longest_line c.before.args.held c.if1.false)
+returns-2 : tie.Need-returns
+returns-2 c = said c.before.args.line.now c.before.args.held c.before.args.byte (lt-leb longest_line c.before.args.held c.if-held-ge-LINE.false)
 
-pub hold-spec : {M : Type 1} → statement M
-hold-spec = tie.close (tie.spec add-result returns element-write-line add-result-2 returns-2)
+pub hold_spec : {M : Type 1} → statement M
+hold_spec = tie.close (tie.spec add-result returns element-write-line add-result-2 returns-2)
