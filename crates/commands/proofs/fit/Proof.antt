@@ -17,28 +17,28 @@ use Rattle.commands.proofs.Fitting.{fit-more, fit-end}
 use Rattle.commands.proofs.fit.Statement.{statement}
 use Rattle.commands.proofs.fit.Tie as tie
 
-abbrev invariant-loop : tie.invariant-loop
+abbrev invariant-loop : tie.invariant-loop-at
 invariant-loop line kinds at₀ end k₀ at k =
     (k ≤ at + 1) × (fit (drop k (words line)) (slice at end kinds) ≡ fit (drop 1 (words line)) (slice at₀ end kinds))
 
-abbrev decreases-loop : tie.decreases-loop
+abbrev decreases-loop : tie.decreases-loop-at
 decreases-loop line kinds at₀ end k₀ at k = end - at
 
-loop-holds : tie.Need-loop-init invariant-loop decreases-loop
+loop-holds : tie.Need-loop-at-init invariant-loop decreases-loop
 loop-holds c = (omega arith, refl)
 
-shared-slice-read-kind-of : tie.Need-shared-slice-read-kind-of invariant-loop decreases-loop
+shared-slice-read-kind-of : tie.Need-bounds-kinds-at invariant-loop decreases-loop
 shared-slice-read-kind-of c = search rules
 
-kind-of-requires : tie.Need-kind-of-requires invariant-loop decreases-loop
+kind-of-requires : tie.Need-kind_of-requires invariant-loop decreases-loop
 kind-of-requires c κs = search rules
 
-is-number-requires : tie.Need-is-number-requires invariant-loop decreases-loop
+is-number-requires : tie.Need-is_number-requires invariant-loop decreases-loop
 is-number-requires c κs = search rules
 
 -- a kind more
-module _ (c : tie.After-is-number invariant-loop decreases-loop) where
-  abbrev at : tie.At-loop invariant-loop decreases-loop
+module _ (c : tie.After-is_number invariant-loop decreases-loop) where
+  abbrev at : tie.At-loop-at invariant-loop decreases-loop
   at = c.before.before.before.before
 
   abbrev start : tie.Start invariant-loop decreases-loop
@@ -48,65 +48,52 @@ module _ (c : tie.After-is-number invariant-loop decreases-loop) where
   line = start.args.line.now
 
   abbrev bs : List ℕ
-  bs = slice (at.loop.at + 1) start.args.end start.args.kinds.now
+  bs = slice (at.loop-at.at + 1) start.args.end start.args.kinds.now
 
-  next : (t : Bool) → c.is_number.result ≡ t → t && fit (drop (at.loop.k + 1) (words line)) bs ≡ fit (drop 1 (words line)) (slice start.args.at start.args.end start.args.kinds.now)
+  next : (t : Bool) → c.is_number.result ≡ t → t && fit (drop (at.loop-at.k + 1) (words line)) bs ≡ fit (drop 1 (words line)) (slice start.args.at start.args.end start.args.kinds.now)
   next t e =
-      let b = get_or start.args.kinds.now at.loop.at 0 in
-      let some = slice-cons at.loop.at start.args.end start.args.kinds.now 0 c.before.before.before.loop-test.true start.pre
-      ∙ ap (λ n. b ∷ slice n start.args.end start.args.kinds.now) (sym (add-one at.loop.at)) in
-      let said = sym e ∙ c.is_number.ensures ∙ ap (is_number line at.loop.k) c.before.kind-of.ensures in
-      ap (λ t. t && fit (drop (at.loop.k + 1) (words line)) bs) said
-      ∙ sym (fit-more (words line) at.loop.k b bs)
-      ∙ sym (ap (fit (drop at.loop.k (words line))) some)
-      ∙ at.loop.inv.1
+      let b = get_or start.args.kinds.now at.loop-at.at 0 in
+      let some = slice-cons at.loop-at.at start.args.end start.args.kinds.now 0 c.before.before.before.loop-at-test.true start.requires
+      ∙ ap (λ n. b ∷ slice n start.args.end start.args.kinds.now) (sym (add-one at.loop-at.at)) in
+      let said = sym e ∙ c.is_number.ensures ∙ ap (is_number line at.loop-at.k) c.before.kind_of.ensures in
+      ap (λ t. t && fit (drop (at.loop-at.k + 1) (words line)) bs) said
+      ∙ sym (fit-more (words line) at.loop-at.k b bs)
+      ∙ sym (ap (fit (drop at.loop-at.k (words line))) some)
+      ∙ at.loop-at.invariant.1
 
-returns : tie.Need-returns invariant-loop decreases-loop
-returns c = let d = c.before in next d false (not-true d.is_number.result c.if1.true)
+returns : tie.Need-returns-then-not-is_number invariant-loop decreases-loop
+returns c = let d = c.before in next d false (not-true d.is_number.result c.if-not-is_number.true-raw)
 
-add_at : tie.Need-overflow-add-at invariant-loop decreases-loop
+add_at : tie.Need-overflow_add-at invariant-loop decreases-loop
 add_at c = search rules
 
-add-k : tie.Need-overflow-add-k invariant-loop decreases-loop
+add-k : tie.Need-overflow_add-k invariant-loop decreases-loop
 add-k c = search rules
 
-loop-less : tie.Need-loop-smaller invariant-loop decreases-loop
+loop-less : tie.Need-loop-at-smaller invariant-loop decreases-loop
 loop-less c = search rules
 
-loop-again : tie.Need-loop-preserved invariant-loop decreases-loop
+loop-again : tie.Need-loop-at-preserved invariant-loop decreases-loop
 loop-again c =
     let d = c.before in
-    (omega arith, next d true (not-false d.is_number.result c.if1.false))
+    (omega arith, next d true (not-false d.is_number.result c.if-not-is_number.false-raw))
 
-has-word-requires : tie.Need-has-word-requires invariant-loop decreases-loop
+has-word-requires : tie.Need-has_word-requires invariant-loop decreases-loop
 has-word-requires c κs = search rules
 
-returns-2 : tie.Need-returns-2 invariant-loop decreases-loop
+returns-2 : tie.Need-returns invariant-loop decreases-loop
 returns-2 c =
     let l = c.before.before in
     let s = l.before.before.before in
     let ws = words s.args.line.now in
     let kinds = s.args.kinds.now in
-    let none = drop_of_length-le (take s.args.end kinds) {i = l.loop.at} (omega (arith, length-take-le s.args.end kinds s.requires, c.before.loop-test.false)) in
-    ap not c.Has-word.ensures
-    ∙ sym (fit-end ws l.loop.k)
-    ∙ sym (ap (fit (drop l.loop.k ws)) none)
-    ∙ l.loop.invariant.1
+    let none = drop_of_length-le (take s.args.end kinds) {i = l.loop-at.at} (omega (arith, length-take-le s.args.end kinds s.requires, c.before.loop-at-test.false)) in
+    ap not c.has_word.ensures
+    ∙ sym (fit-end ws l.loop-at.k)
+    ∙ sym (ap (fit (drop l.loop-at.k ws)) none)
+    ∙ l.loop-at.invariant.1
 
 pub fit_spec : {M : Type 1} → statement M
 fit_spec =
     tie.close
-    (tie.spec
-    invariant-loop
-    decreases-loop
-    loop-holds
-    shared-slice-read-kind-of
-    kind-of-requires
-    is-number-requires
-    returns
-    add_at
-    add-k
-    loop-less
-    loop-again
-    has-word-requires
-    returns-2)
+    (tie.spec invariant-loop decreases-loop loop-holds shared-slice-read-kind-of kind-of-requires is-number-requires returns add_at add-k loop-less loop-again has-word-requires returns-2)

@@ -5,15 +5,12 @@ use Rattle.commands.specs.Commands.{kinds}
 use Rattle.commands.proofs.fits.Statement.{statement}
 use Rattle.commands.proofs.fits.Tie as tie
 
-slice-aggregate-fits-in : tie.Need-slice-aggregate-fits-in
-slice-aggregate-fits-in c = refl
-
-fits-in-requires : tie.Need-fits-in-requires
+fits-in-requires : tie.Need-fits_in-requires
 fits-in-requires c κs = search rules
 
 returns : tie.Need-returns
 unfolding kinds
 returns c = c.fits_in.ensures
 
-pub fits-spec : {M : Type 1} → statement M
-fits-spec = tie.close (tie.spec slice-aggregate-fits-in fits-in-requires returns)
+pub fits_spec : {M : Type 1} → statement M
+fits_spec = tie.close (tie.spec fits-in-requires returns)

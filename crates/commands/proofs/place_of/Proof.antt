@@ -5,16 +5,13 @@ use Rattle.commands.specs.Commands.{names}
 use Rattle.commands.proofs.place_of.Statement.{statement}
 use Rattle.commands.proofs.place_of.Tie as tie
 
-slice-aggregate-place-in : tie.Need-slice-aggregate-place-in
-slice-aggregate-place-in c = refl
-
-place-in-requires : tie.Need-place-in-requires
+place-in-requires : tie.Need-place_in-requires
 unfolding words
 place-in-requires c κs = refl
 
 returns : tie.Need-returns
 unfolding names
-returns c = c.IsPlace-in.ensures
+returns c = c.place_in.ensures
 
-pub place-of-spec : {M : Type 1} → statement M
-place-of-spec = tie.close (tie.spec slice-aggregate-place-in place-in-requires returns)
+pub place_of_spec : {M : Type 1} → statement M
+place_of_spec = tie.close (tie.spec place-in-requires returns)
