@@ -9,7 +9,7 @@ use Rattle.polynomials.specs.Order.{powers, below}
 use Rattle.polynomials.specs.Binomial.{choose}
 use Rattle.polynomials.specs.Group.{number, term, evaluated, given, moved_number, replaced}
 use Rattle.polynomials.specs.Groups.{total, total_weight, moved_group, longer}
-use Rattle.layout.specs.Shape.{kinds_length, block_start, gtm, cumulus}
+use Rattle.layout.specs.Shape.{kinds_length, gtm}
 use Rattle.layout.specs.Limits.{every, all_in_range, good}
 use Rattle.layout.specs.Blocks.{low, high, groups, laid_out, chosen, coefficient}
 use Rattle.layout.specs.Sound.{reach, within_cap}
