@@ -14,13 +14,13 @@ use Rattle.limits.proofs.Held.{held}
 use Rattle.limits.proofs.Limits.first_good.Statement.{statement}
 use Rattle.limits.proofs.Limits.first_good.Tie as tie
 
-lowest-requires : tie.Need-lowest-requires
+lowest-requires : tie.Need-lowest-lowest-requires
 lowest-requires c κs = omega arith
 
-at-requires : tie.Need-at-requires
+at-requires : tie.Need-at-cut-requires
 at-requires c κs = omega arith
 
-highest-requires : tie.Need-highest-requires
+highest-requires : tie.Need-highest-highest-requires
 highest-requires c κs = omega arith
 
 returns : tie.Need-returns
@@ -33,11 +33,11 @@ returns c =
     let high = highest (shape s.model) s.numbers 0 in
     let below = le_z low middle in
     let above = lt_z middle high in
-    ap₂ ◌&&◌ (ap₂ ◌&&◌ (ap₂ (λ x y. le_z (neg_ℤ (pos farthest_limit)) x && le_z x y) (held b.lowest.result b.lowest.type-inv b.lowest.ensures) (held d.at.result d.at.type-inv d.at.ensures))
-    (ap₂ lt_z (held d.at.result d.at.type-inv d.at.ensures) (held c.highest.result c.highest.type-inv c.highest.ensures)))
-    (ap (λ y. le_z y (pos farthest_limit)) (held c.highest.result c.highest.type-inv c.highest.ensures))
+    ap₂ ◌&&◌ (ap₂ ◌&&◌ (ap₂ (λ x y. le_z (neg_ℤ (pos farthest_limit)) x && le_z x y) (held b.lowest-lowest.result b.lowest-lowest.type_inv b.lowest-lowest.ensures) (held d.at-cut.result d.at-cut.type_inv d.at-cut.ensures))
+    (ap₂ lt_z (held d.at-cut.result d.at-cut.type_inv d.at-cut.ensures) (held c.highest-highest.result c.highest-highest.type_inv c.highest-highest.ensures)))
+    (ap (λ y. le_z y (pos farthest_limit)) (held c.highest-highest.result c.highest-highest.type_inv c.highest-highest.ensures))
     ∙ ap (λ x. x && le_z high (pos farthest_limit)) (and_assoc (le_z (neg_ℤ (pos farthest_limit)) low) below above)
     ∙ ends-near low high (below && above) (λ e. ≤ℤ-trans (le_z-fact (&&-left below above e)) (<ℤ-≤ℤ (lt_z-fact (&&-right below above e))))
 
-pub first-good-spec : {M : Type 1} → statement M
-first-good-spec = tie.close (tie.spec lowest-requires at-requires highest-requires returns)
+pub first_good_spec : {M : Type 1} → statement M
+first_good_spec = tie.close (tie.spec lowest-requires at-requires highest-requires returns)

@@ -43,48 +43,48 @@ stops m t n h l d =
     let k : suc (n - 1) ≡ n = omega arith in
     every-stops (variables_room - 1) (λ i. tested m t (suc i)) (n - 1) (omega arith) (ap (tested m t) k ∙ d)
 
-abbrev invariant-loop : tie.invariant-loop
+abbrev invariant-loop : tie.invariant-loop-variable
 invariant-loop self variable₀ variable = (1 ≤ variable) × (variable ≤ variables_room) × (before self.model self.numbers variable ≡ true)
 
-abbrev decreases-loop : tie.decreases-loop
+abbrev decreases-loop : tie.decreases-loop-variable
 decreases-loop self variable₀ variable = variables_room - variable
 
-loop-holds : tie.Need-loop-init invariant-loop decreases-loop
+loop-holds : tie.Need-loop-variable-init invariant-loop decreases-loop
 loop-holds c = (omega arith, omega arith, every-none _)
 
-variable-good-requires : tie.Need-variable-good-requires invariant-loop decreases-loop
-variable-good-requires c κs = c.loop-test.true
+variable-good-requires : tie.Need-variable_good-requires invariant-loop decreases-loop
+variable-good-requires c κs = c.loop-variable-test.true
 
-returns : tie.Need-returns invariant-loop decreases-loop
+returns : tie.Need-returns-then-not-variable_good invariant-loop decreases-loop
 returns c =
     let d = c.before in
     let s = d.before.before.before.args.self in
-    let l = d.before.before.loop in
-    sym (stops s.model s.numbers l.variable l.invariant.0 d.before.loop-test.true (sym d.variable-good.ensures ∙ not-true _ c.if1.true))
+    let l = d.before.before.loop-variable in
+    sym (stops s.model s.numbers l.variable l.invariant.0 d.before.loop-variable-test.true (sym d.variable_good.ensures ∙ not-true _ c.if-not-variable_good.true-raw))
     ∙ in-room s.model s.numbers
 
-add-variable : tie.Need-overflow-add-variable invariant-loop decreases-loop
-add-variable c = omega (arith, c.before.before.loop-test.true)
+add-variable : tie.Need-overflow_add-variable invariant-loop decreases-loop
+add-variable c = omega (arith, c.before.before.loop-variable-test.true)
 
-loop-less : tie.Need-loop-smaller invariant-loop decreases-loop
-loop-less c = omega (arith, c.before.before.loop-test.true)
+loop-less : tie.Need-loop-variable-smaller invariant-loop decreases-loop
+loop-less c = omega (arith, c.before.before.loop-variable-test.true)
 
-loop-again : tie.Need-loop-preserved invariant-loop decreases-loop
+loop-again : tie.Need-loop-variable-preserved invariant-loop decreases-loop
 loop-again c =
     let d = c.before in
     let s = d.before.before.before.args.self in
-    let l = d.before.before.loop in (
+    let l = d.before.before.loop-variable in (
       omega arith,
-      omega (arith, d.before.loop-test.true),
-      one_more s.model s.numbers l.variable l.invariant.0 l.invariant.2 (sym d.variable-good.ensures ∙ not-false _ c.if1.false),
+      omega (arith, d.before.loop-variable-test.true),
+      one_more s.model s.numbers l.variable l.invariant.0 l.invariant.2 (sym d.variable_good.ensures ∙ not-false _ c.if-not-variable_good.false-raw),
     )
 
-returns-2 : tie.Need-returns-2 invariant-loop decreases-loop
+returns-2 : tie.Need-returns invariant-loop decreases-loop
 returns-2 c =
-    let l = c.before.loop in
+    let l = c.before.loop-variable in
     let s = c.before.before.args.self in
-    let e : l.variable ≡ variables_room = omega (arith, l.invariant.1, c.loop-test.false) in
+    let e : l.variable ≡ variables_room = omega (arith, l.invariant.1, c.loop-variable-test.false) in
     sym l.invariant.2 ∙ ap (before s.model s.numbers) e ∙ in-room s.model s.numbers
 
-pub others-good-spec : {M : Type 1} → statement M
-others-good-spec = tie.close (tie.spec invariant-loop decreases-loop loop-holds variable-good-requires returns add-variable loop-less loop-again returns-2)
+pub others_good_spec : {M : Type 1} → statement M
+others_good_spec = tie.close (tie.spec invariant-loop decreases-loop loop-holds variable-good-requires returns add-variable loop-less loop-again returns-2)

@@ -4,20 +4,20 @@ use Rattle.layout.proofs.Fine.{few-fine}
 use Rattle.limits.proofs.Limits.owner.Statement.{statement}
 use Rattle.limits.proofs.Limits.owner.Tie as tie
 
-fine-cuts-requires : tie.Need-fine-cuts-requires
+fine-cuts-requires : tie.Need-fine_cuts-before-requires
 fine-cuts-requires c κs = tt
 
-add-before : tie.Need-overflow-add-before
-add-before c = omega (arith, c.fine-cuts.ensures, few-fine c.before.args.self.model)
+add-before : tie.Need-overflow_add-before
+add-before c = omega (arith, c.fine_cuts-before.ensures, few-fine c.before.args.self.model)
 
-returns : tie.Need-returns
-returns c = omega (arith, c.before.fine-cuts.ensures, c.if1.true)
+returns : tie.Need-returns-then-place-before
+returns c = omega (arith, c.before.fine_cuts-before.ensures, c.if-place-before.true)
 
-sub-result : tie.Need-overflow-sub-result
-sub-result c = omega (arith, c.if1.false)
+sub-result : tie.Need-overflow_sub-result
+sub-result c = omega (arith, c.if-place-before.false)
 
-returns-2 : tie.Need-returns-2
-returns-2 c = omega (arith, c.before.fine-cuts.ensures)
+returns-2 : tie.Need-returns
+returns-2 c = omega (arith, c.before.fine_cuts-before.ensures)
 
-pub owner-spec : {M : Type 1} → statement M
-owner-spec = tie.close (tie.spec fine-cuts-requires add-before returns sub-result returns-2)
+pub owner_spec : {M : Type 1} → statement M
+owner_spec = tie.close (tie.spec fine-cuts-requires add-before returns sub-result returns-2)

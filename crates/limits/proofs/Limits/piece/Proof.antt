@@ -14,16 +14,16 @@ use Rattle.limits.proofs.Limits.piece.Tie as tie
 
 -- the test that was made
 test-is : (c : tie.After-at) → let a = c.before.args in le_z (to_z w64 (of_z w64 a.x)) (to_z w64 (of_z w64 c.at.result)) ≡ le_z a.x (cut (shape a.self.model) a.self.numbers)
-test-is c = ap₂ le_z (to_z-of_z c.before.ranges.x) (held c.at.result c.at.type-inv c.at.ensures)
+test-is c = ap₂ le_z (to_z-of_z c.before.ranges.x) (held c.at.result c.at.type_inv c.at.ensures)
 
 at-requires : tie.Need-at-requires
 at-requires c κs = omega arith
 
-returns : tie.Need-returns
-returns c = ap (λ b. cond b 0 1) (sym c.if1.true ∙ test-is c.before)
+returns : tie.Need-returns-then-x-at
+returns c = ap (λ b. cond b 0 1) (sym c.if-x-at.true ∙ test-is c.before)
 
-returns-2 : tie.Need-returns-2
-returns-2 c = ap (λ b. cond b 0 1) (sym c.if1.false ∙ test-is c.before)
+returns-2 : tie.Need-returns
+returns-2 c = ap (λ b. cond b 0 1) (sym c.if-x-at.false ∙ test-is c.before)
 
-pub piece-spec : {M : Type 1} → statement M
-piece-spec = tie.close (tie.spec at-requires returns returns-2)
+pub piece_spec : {M : Type 1} → statement M
+piece_spec = tie.close (tie.spec at-requires returns returns-2)

@@ -31,16 +31,9 @@ returns c =
     let beta = xi.before in
     let alpha = beta.before in
     let low = alpha.before in
-    λ i. low.reach.ensures i ∷ alpha.reach2.ensures i ∷ beta.reach3.ensures i ∷ xi.reach4.ensures i ∷ eta.reach5.ensures i ∷ c.reach6.ensures i ∷ []
+    λ i. low.reach.ensures i ∷ alpha.reach-2.ensures i ∷ beta.reach-3.ensures i ∷ xi.reach-4.ensures i ∷ eta.reach-5.ensures i ∷ c.reach-6.ensures i ∷ []
 
-pub reaches-spec : {M : Type 1} → statement M
-reaches-spec =
+pub reaches_spec : {M : Type 1} → statement M
+reaches_spec =
     tie.close
-    (tie.spec
-    reach-requires
-    reach-requires-2
-    reach-requires-3
-    reach-requires-4
-    reach-requires-5
-    reach-requires-6
-    returns)
+    (tie.spec reach-requires reach-requires-2 reach-requires-3 reach-requires-4 reach-requires-5 reach-requires-6 returns)

@@ -11,22 +11,22 @@ place_is : (S : Shape) (i : ℕ) → 0 < i → 2 * i + 1 + fine_cuts S ≡ lowes
 place_is S zero h = absurd (omega arith)
 place_is S (suc i) h = omega arith
 
-mul-result : tie.Need-overflow-mul-result
+mul-result : tie.Need-overflow_mul-result
 mul-result c = omega (arith, c.requires.1)
 
-add-result : tie.Need-overflow-add-result
+add-result : tie.Need-overflow_add-result
 add-result c = omega (arith, c.requires.1)
 
-fine-cuts-requires : tie.Need-fine-cuts-requires
+fine-cuts-requires : tie.Need-fine_cuts-requires
 fine-cuts-requires c κs = tt
 
-add-result-2 : tie.Need-overflow-add-result-2
-add-result-2 c = let s = c.before in omega (arith, s.requires.1, c.fine-cuts.ensures, few-fine s.args.self.model)
+add-result-2 : tie.Need-overflow_add-result-2
+add-result-2 c = let s = c.before in omega (arith, s.requires.1, c.fine_cuts.ensures, few-fine s.args.self.model)
 
 returns : tie.Need-returns
 returns c =
     let s = c.before in
-    ap (λ (n : ℕ). 2 * s.args.variable + 1 + n) c.fine-cuts.ensures ∙ place_is (shape s.args.self.model) s.args.variable s.requires.0
+    ap (λ (n : ℕ). 2 * s.args.variable + 1 + n) c.fine_cuts.ensures ∙ place_is (shape s.args.self.model) s.args.variable s.requires.0
 
 pub start_spec : {M : Type 1} → statement M
 start_spec = tie.close (tie.spec mul-result add-result fine-cuts-requires add-result-2 returns)

@@ -18,29 +18,29 @@ use Rattle.limits.proofs.Limits.variable_good.Tie as tie
 variables-requires : tie.Need-variables-requires
 variables-requires c κs = tt
 
-returns : tie.Need-returns
+returns : tie.Need-returns-then-variable-variables
 returns c =
     let a = c.before.before.args in
     let S = shape a.self.model in
-    sym (cond-past a.variable S.variables (variable_good S a.self.numbers a.variable) (omega (arith, c.if1.true, c.before.variables.ensures)))
+    sym (cond-past a.variable S.variables (variable_good S a.self.numbers a.variable) (omega (arith, c.if-variable-variables.true, c.before.variables.ensures)))
 
-lowest-requires : tie.Need-lowest-requires
+lowest-requires : tie.Need-lowest-lowest-requires
 lowest-requires c κs = c.before.before.requires
 
-highest-requires : tie.Need-highest-requires
+highest-requires : tie.Need-highest-highest-requires
 highest-requires c κs = c.before.before.before.requires
 
-returns-2 : tie.Need-returns-2
+returns-2 : tie.Need-returns
 returns-2 c =
     let d = c.before in
     let a = d.before.before.before.args in
     let S = shape a.self.model in
     let t = a.self.numbers in
-    let low = held d.lowest.result d.lowest.type-inv d.lowest.ensures in
-    let high = held c.highest.result c.highest.type-inv c.highest.ensures in
+    let low = held d.lowest-lowest.result d.lowest-lowest.type_inv d.lowest-lowest.ensures in
+    let high = held c.highest-highest.result c.highest-highest.type_inv c.highest-highest.ensures in
     ap₂ (λ x y. le_z (neg_ℤ (pos farthest_limit)) x && le_z x y && le_z y (pos farthest_limit)) low high
     ∙ ends-near (lowest S t a.variable) (highest S t a.variable) (in_order S t a.variable) le_z-fact
-    ∙ sym (cond-in a.variable S.variables (omega (arith, d.before.if1.false, d.before.before.variables.ensures)))
+    ∙ sym (cond-in a.variable S.variables (omega (arith, d.before.if-variable-variables.false, d.before.before.variables.ensures)))
 
-pub variable-good-spec : {M : Type 1} → statement M
-variable-good-spec = tie.close (tie.spec variables-requires returns lowest-requires highest-requires returns-2)
+pub variable_good_spec : {M : Type 1} → statement M
+variable_good_spec = tie.close (tie.spec variables-requires returns lowest-requires highest-requires returns-2)
