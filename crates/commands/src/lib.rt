@@ -10,7 +10,7 @@ use numbers::{Kind, bits_at, is_number, natural_at, signed_at};
 use words::{has_word, same_word, word_at};
 
 // The commands by their names, and what is none.
-#[derive(Drop)]
+#[derive(Clone, Copy)]
 pub enum Name {
     Publish,
     Move,
@@ -31,7 +31,7 @@ pub enum Name {
 }
 
 // A reading of each variable of a model.
-#[derive(Drop)]
+#[derive(Clone, Copy)]
 pub enum State {
     Cumulus {
         alpha: i64,
@@ -47,7 +47,7 @@ pub enum State {
 }
 
 // What is asked of the library.
-#[derive(Drop)]
+#[derive(Clone, Copy)]
 pub enum Operation {
     Publish {
         model: Model,
@@ -90,7 +90,7 @@ pub enum Operation {
 }
 
 // What is done with the spaces themselves.
-#[derive(Drop)]
+#[derive(Clone, Copy)]
 pub enum Keeping {
     Length {
         space: u64,
@@ -122,7 +122,7 @@ pub enum Keeping {
     },
 }
 
-#[derive(Drop)]
+#[derive(Clone, Copy)]
 pub enum Command {
     Blank,
     Comment,

@@ -4,22 +4,22 @@ use Rattle.spaces.proofs.drawing.checksum.Statement.{statement}
 use Rattle.spaces.proofs.drawing.checksum.Tie as tie
 use Rattle.std.proofs.num.wrapping_add_u64.Reads as wrapping-add-u64-reads
 
-abbrev invariant-loop : tie.invariant-loop
+abbrev invariant-loop : tie.invariant-loop-k
 invariant-loop numbers from end stop sum₀ k₀ sum k = (0 ≤ k)
 
-abbrev decreases-loop : tie.decreases-loop
+abbrev decreases-loop : tie.decreases-loop-k
 decreases-loop numbers from end stop sum₀ k₀ sum k = stop - k
 
-least-requires : tie.Need-least-requires invariant-loop decreases-loop
+least-requires : tie.Need-least-stop-requires invariant-loop decreases-loop
 least-requires c κs = search rules
 
-loop-holds : tie.Need-loop-init invariant-loop decreases-loop
+loop-holds : tie.Need-loop-k-init invariant-loop decreases-loop
 loop-holds c = search rules
 
-mul-number : tie.Need-overflow-mul-number invariant-loop decreases-loop
+mul-number : tie.Need-offset_bounds-numbers-k invariant-loop decreases-loop
 mul-number c = search rules
 
-shared-slice-copy-out-number : tie.Need-shared-slice-copy-out-number invariant-loop decreases-loop
+shared-slice-copy-out-number : tie.Need-bounds-numbers-k invariant-loop decreases-loop
 shared-slice-copy-out-number c = search rules
 
 stepped-requires : tie.Need-stepped-requires invariant-loop decreases-loop
@@ -28,35 +28,22 @@ stepped-requires c κs = search rules
 complement-requires : tie.Need-complement-requires invariant-loop decreases-loop
 complement-requires c κs = search rules
 
-wrapping-add-u64-requires : tie.Need-wrapping-add-u64-requires invariant-loop decreases-loop
+wrapping-add-u64-requires : tie.Need-wrapping_add_u64-sum-requires invariant-loop decreases-loop
 wrapping-add-u64-requires c κs = search rules
 
-add-k : tie.Need-overflow-add-k invariant-loop decreases-loop
+add-k : tie.Need-overflow_add-k invariant-loop decreases-loop
 add-k c = search rules
 
-loop-less : tie.Need-loop-smaller invariant-loop decreases-loop
+loop-less : tie.Need-loop-k-smaller invariant-loop decreases-loop
 loop-less c = search rules
 
-loop-again : tie.Need-loop-preserved invariant-loop decreases-loop
+loop-again : tie.Need-loop-k-preserved invariant-loop decreases-loop
 loop-again c = search rules
 
 returns : tie.Need-returns invariant-loop decreases-loop
 returns c = search rules
 
-pub checksum-spec : {M : Type 1} → statement M
-checksum-spec =
+pub checksum_spec : {M : Type 1} → statement M
+checksum_spec =
     tie.close
-    (tie.spec
-    invariant-loop
-    decreases-loop
-    least-requires
-    loop-holds
-    mul-number
-    shared-slice-copy-out-number
-    stepped-requires
-    complement-requires
-    wrapping-add-u64-requires
-    add-k
-    loop-less
-    loop-again
-    returns)
+    (tie.spec invariant-loop decreases-loop least-requires loop-holds mul-number shared-slice-copy-out-number stepped-requires complement-requires wrapping-add-u64-requires add-k loop-less loop-again returns)

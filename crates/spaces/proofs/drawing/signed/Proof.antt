@@ -10,23 +10,23 @@ use Rattle.spaces.proofs.drawing.signed.Tie as tie
 sum_fits : (z : ℤ) → pos 0 ≤ℤ z → SFits w64 z → SFits w64 (z +ℤ negsuc 9223372036854775807)
 sum_fits z = ring1 z (λ ρ e. simp (quote, quote-pos ρ, quote-negsuc ρ, e) (omega zarith))
 
-cast-result : tie.Need-overflow-cast-result
+cast-result : tie.Need-overflow_cast-result
 cast-result c = search rules
 
-returns : tie.Need-returns
+returns : tie.Need-returns-then-w-lt-SIGN
 returns c = search rules
 
-cast-result-2 : tie.Need-overflow-cast-result-2
+cast-result-2 : tie.Need-overflow_cast-result-2
 cast-result-2 c = search rules
 
-add-result : tie.Need-overflow-add-result
+add-result : tie.Need-overflow_add-result
 add-result c =
     let n = c.before.args.w - 9223372036854775808 in
     let h : n < 2 ^ 63 = omega (arith, c.before.ranges.w) in
     subst⁻¹ (λ z. SFits w64 (z +ℤ negsuc 9223372036854775807)) (to_z_pos w64 h) (sum_fits (pos n) (record { le = le→leb 0 n (omega arith) }) (record { sfits = h }))
 
-returns-2 : tie.Need-returns-2
+returns-2 : tie.Need-returns
 returns-2 c = search rules
 
-pub signed-spec : {M : Type 1} → statement M
-signed-spec = tie.close (tie.spec cast-result returns cast-result-2 add-result returns-2)
+pub signed_spec : {M : Type 1} → statement M
+signed_spec = tie.close (tie.spec cast-result returns cast-result-2 add-result returns-2)
