@@ -46,7 +46,7 @@ fn is_untouched(lent: &[i64; LENT], from: usize, end: usize) -> bool {
 }
 
 // Whether the numbers of a room are as they were, and whether its sides are.
-#[derive(Drop)]
+#[derive(Clone, Copy)]
 struct Left {
     within: bool,
     sides: bool,
