@@ -2,7 +2,7 @@
 -- binomial numbers. Assumes nothing.
 use mathlib.Core.Path.{◌≡◌, refl, sym, ◌∙◌, ap, subst}
 use mathlib.Core.List.{List, []}
-use Prim.Native.Nat.{ℕ, zero, suc, ◌+◌, ◌^◌, ◌-◌, ◌≤◌, ◌<◌}
+use Prim.Native.Nat.{ℕ, zero, suc, ◌^◌, ◌-◌, ◌≤◌, ◌<◌}
 use native.Mathlib.Nat as N
 use native.Mathlib.Decide.{ℕ_discrete}
 use native.Mathlib.Omega.{arith}
@@ -88,10 +88,10 @@ module _ (s : ℤ) (near : nat_abs s ≤ farthest) (k : ℕ) (h : k ≤ highest_
         pick i d f (yes c) = rw c (get_or-set_same row (p - 1) v (pos 0) (omega (arith, t.five)) ∙ e)
         pick i d f (no c) = get_or-set_other row (p - 1) i v (pos 0) c ∙ t.done i (omega arith) f
 
-abbrev invariant-loop : tie.invariant-loop
+abbrev invariant-loop : tie.invariant-loop-p
 invariant-loop s k row₀ power₀ p₀ row power p = Turn (to_z w64 s) k row (to_z w64 power) p
 
-abbrev decreases-loop : tie.decreases-loop
+abbrev decreases-loop : tie.decreases-loop-p
 decreases-loop s k row₀ power₀ p₀ row power p = p
 
 -- ---- at a turn
@@ -103,7 +103,7 @@ module _ (c : tie.Start invariant-loop decreases-loop) where
   near : nat_abs s ≤ farthest
   near = subst (λ z. nat_abs z ≤ farthest) (sym (to_z-of_z c.ranges.s)) c.requires.0
 
-module _ (c : tie.In-loop invariant-loop decreases-loop) where
+module _ (c : tie.In-loop-p invariant-loop decreases-loop) where
   abbrev start : tie.Start invariant-loop decreases-loop
   start = c.before.before.before
 
@@ -111,92 +111,78 @@ module _ (c : tie.In-loop invariant-loop decreases-loop) where
   k = start.args.k
 
   abbrev p : ℕ
-  p = c.before.loop.p
+  p = c.before.loop-p.p
 
-  turn : Turn (s start) k c.before.loop.row (to_z w64 c.before.loop.power) p
-  turn = c.before.loop.invariant
+  turn : Turn (s start) k c.before.loop-p.row (to_z w64 c.before.loop-p.power-bits) p
+  turn = c.before.loop-p.invariant
 
-  power-bits : SFits w64 (to_z w64 c.before.loop.power *ℤ s start)
-  power-bits = op-bits ◌*ℤ◌ turn.power-is refl (more-fits (s start) (near start) k start.pre.1 p c.loop-test.true turn.few)
+  power-bits : SFits w64 (to_z w64 c.before.loop-p.power-bits *ℤ s start)
+  power-bits = op-bits ◌*ℤ◌ turn.power-is refl (more-fits (s start) (near start) k start.requires.1 p c.loop-p-test.true turn.few)
 
-  power-now : to_z w64 (of_z w64 (to_z w64 c.before.loop.power *ℤ s start)) ≡ pow (s start) (k - (p - 1))
-  power-now = to_z-of_z power-bits ∙ ap (λ z. z *ℤ s start) turn.power-is ∙ more (s start) (near start) k start.pre.1 p c.loop-test.true turn.few
+  power-now : to_z w64 (of_z w64 (to_z w64 c.before.loop-p.power-bits *ℤ s start)) ≡ pow (s start) (k - (p - 1))
+  power-now = to_z-of_z power-bits ∙ ap (λ z. z *ℤ s start) turn.power-is ∙ more (s start) (near start) k start.requires.1 p c.loop-p-test.true turn.few
 
   -- the place that is written
   place : p - 1 < 5
-  place = omega (arith, start.pre.1, turn.few, c.loop-test.true)
+  place = omega (arith, start.requires.1, turn.few, c.loop-p-test.true)
 
 -- the number of the row, as it is read
-number_is : (c : tie.After-row2 invariant-loop decreases-loop) → to_z w64 (of_z w64 (get_or c.before.before.loop.row (p c.before - 1) (pos 0))) ≡ pos (choose (k c.before) (p c.before - 1))
+number_is : (c : tie.After-row-in-loop-p-1 invariant-loop decreases-loop) → to_z w64 (of_z w64 (get_or c.before.before.loop-p.row (p c.before - 1) (pos 0))) ≡ pos (choose (k c.before) (p c.before - 1))
 number_is c =
-    to_z-of_z (sfits_of {z = get_or c.before.before.loop.row (p c.before - 1) (pos 0)} c.row2.given)
-    ∙ (turn c.before).left (p c.before - 1) (omega (arith, c.before.loop-test.true))
+    to_z-of_z {w = w64} (sfits_of {z = get_or c.before.before.loop-p.row (p c.before - 1) (pos 0)} c.row-in-loop-p-1.given)
+    ∙ (turn c.before).left (p c.before - 1) (omega (arith, c.before.loop-p-test.true))
 
-mul-row : tie.Need-overflow-mul-row invariant-loop decreases-loop
+mul-row : tie.Need-offset_bounds-k invariant-loop decreases-loop
 mul-row c = omega (arith, c.requires.1)
 
-array-copy-out-row : tie.Need-array-copy-out-row invariant-loop decreases-loop
+array-copy-out-row : tie.Need-bounds-k-k invariant-loop decreases-loop
 array-copy-out-row c = omega (arith, c.requires.1)
 
-loop-holds : tie.Need-loop-init invariant-loop decreases-loop
+loop-holds : tie.Need-loop-p-init invariant-loop decreases-loop
 unfolding binomials listed choose
 loop-holds c =
     let a = c.before in
     first (s a) (near a) a.args.k a.requires.1 _ (get_or-listed 5 binomials a.args.k [] (omega (arith, a.requires.1)))
 
-sub-p : tie.Need-overflow-sub-p invariant-loop decreases-loop
-sub-p c = c.loop-test.true
+sub-p : tie.Need-overflow_sub-p invariant-loop decreases-loop
+sub-p c = c.loop-p-test.true
 
-mul_power : tie.Need-overflow-mul-power invariant-loop decreases-loop
+mul_power : tie.Need-overflow_mul-power invariant-loop decreases-loop
 mul_power c = power-bits c
 
-mul-row-2 : tie.Need-overflow-mul-row-2 invariant-loop decreases-loop
+mul-row-2 : tie.Need-offset_bounds-row-p invariant-loop decreases-loop
 mul-row-2 c = omega (arith, place c)
 
-array-copy-out-row-2 : tie.Need-array-copy-out-row-2 invariant-loop decreases-loop
+array-copy-out-row-2 : tie.Need-bounds-row-p invariant-loop decreases-loop
 array-copy-out-row-2 c = omega (arith, place c, (turn c).five)
 
-mul-row-3 : tie.Need-overflow-mul-row-3 invariant-loop decreases-loop
+mul-row-3 : tie.Need-overflow_mul-row invariant-loop decreases-loop
 mul-row-3 c =
     let d = c.before in
     op-bits ◌*ℤ◌ (number_is c) (power-now d) (number_fits (s (start d)) (near (start d)) (k d) (start d).requires.1 (p d - 1))
 
-array-set-from-row : tie.Need-array-set-from-row invariant-loop decreases-loop
+array-set-from-row : tie.Need-bounds-row-p-in-loop-p invariant-loop decreases-loop
 array-set-from-row c = omega (arith, place c.before, (turn c.before).five)
 
-loop-less : tie.Need-loop-smaller invariant-loop decreases-loop
-loop-less c = omega (arith, c.before.loop-test.true)
+loop-less : tie.Need-loop-p-smaller invariant-loop decreases-loop
+loop-less c = omega (arith, c.before.loop-p-test.true)
 
-loop-again : tie.Need-loop-preserved invariant-loop decreases-loop
+loop-again : tie.Need-loop-p-preserved invariant-loop decreases-loop
 loop-again c =
     let d = c.before in
-    next (s (start d)) (near (start d)) (k d) (start d).requires.1 (p d) d.loop-test.true (turn d).few (turn d)
+    next (s (start d)) (near (start d)) (k d) (start d).requires.1 (p d) d.loop-p-test.true (turn d).few (turn d)
     (op-back ◌*ℤ◌ (number_is c) (power-now d) (number_fits (s (start d)) (near (start d)) (k d) (start d).requires.1 (p d - 1)))
     (power-now d)
 
 returns : tie.Need-returns invariant-loop decreases-loop
 returns c =
-    let l = c.before.loop in
+    let l = c.before.loop-p in
     let a = c.before.before.before in
-    let e : l.p ≡ 0 = omega (arith, c.loop-test.false) in
+    let e : l.p ≡ 0 = omega (arith, c.loop-p-test.false) in
     sym (listed-is (pos 0) 5 (multiplied_out ints (s a) a.args.k) l.row l.invariant.five (λ i d. l.invariant.done i (omega arith) d))
     ∙ ap (λ z. listed 5 (multiplied_out ints z a.args.k)) (to_z-of_z a.ranges.s)
 
-pub multiplied-row-spec : {M : Type 1} → statement M
-multiplied-row-spec =
+pub multiplied_row_spec : {M : Type 1} → statement M
+multiplied_row_spec =
     tie.close
-    (tie.spec
-    invariant-loop
-    decreases-loop
-    mul-row
-    array-copy-out-row
-    loop-holds
-    sub-p
-    mul_power
-    mul-row-2
-    array-copy-out-row-2
-    mul-row-3
-    array-set-from-row
-    loop-less
-    loop-again
-    returns)
+    (tie.spec invariant-loop decreases-loop mul-row array-copy-out-row loop-holds sub-p mul_power mul-row-2 array-copy-out-row-2 mul-row-3 array-set-from-row loop-less loop-again returns)

@@ -1,0 +1,152 @@
+-- `shifting::move_group` meets its contract. Assumes nothing.
+use mathlib.Core.Path.{◌≡◌, refl, sym, ◌∙◌, ap, ap₂}
+use mathlib.Core.List.{List}
+use Prim.Native.Nat.{ℕ, ◌+◌, ◌≤◌, ◌<◌}
+use native.Mathlib.Nat as N
+use native.Mathlib.Decide.{ℕ_discrete}
+use native.Mathlib.Omega.{arith}
+use mir.Syntax.{w64}
+use borrow.Author.Rules.{rules}
+use lib.IntN.{ℤ, pos}
+use lib.ListN.{length, get_or, set, length-set}
+use lib.Seq.{get_or-set_same, get_or-set_other}
+use mir.Val.{SFits}
+use mir.Facts.{to_z-of_z}
+use Rattle.polynomials.specs.Numbers.{ints}
+use Rattle.polynomials.specs.Order.{below}
+use Rattle.polynomials.specs.Ready.{Movable}
+use Rattle.polynomials.specs.Group.{own, moved_number, replaced, moved}
+use Rattle.polynomials.specs.declared.Variable.{Variable}
+use Rattle.polynomials.specs.declared.Variable.TheVariants.{First, Second}
+use Rattle.polynomials.proofs.Places.{powers-place}
+use Rattle.polynomials.proofs.Listed.{listed-is}
+use Rattle.polynomials.proofs.Chains.{chain, gap, gap-near, chain_next, chain-beside, chain-rises, chain-degree, chain-powers}
+use Rattle.shifting.proofs.move_group.Invariants.{mine, others, moved_at, Filled, Stands}
+use Rattle.shifting.proofs.move_group.Goals as goal
+
+module _ (w : Variable) (s : ℤ) (l : List ℤ) where
+  none : (out : List ℤ) → Filled w s l out 0 0
+  unfolding Filled
+  none out k h a c = absurd (omega (arith, c (omega arith)))
+
+  number-there : (b p : ℕ) → moved_number ints w s l (own w p b) (own w b p) ≡ moved_at w s l (chain w b p)
+  unfolding moved_at
+  number-there b p = let e = powers-place (own w p b) (own w b p) in ap₂ (moved_number ints w s l) (sym e.0) (sym e.1)
+
+  -- at a turn of the loop over a chain, and at one of the loop over the chains
+  degree : {out : List ℤ} {b p at : ℕ} → Stands w s l out b p at → at < length l → Movable w s l → b + p < 5
+  unfolding below
+  degree {out} {b} {p} {at} t h m = chain-degree w 5 b p (omega (arith, t.here, h, m.few))
+
+  -- a number is written, and the loop goes on to the next of the chain
+  more : (out : List ℤ) (b p at step : ℕ) (v : ℤ) → at < length l → Stands w s l out b p at → step ≡ gap w (b + p) → v ≡ moved_at w s l (chain w b p) → Stands w s l (set out at v) b (p + 1) (at + step)
+  unfolding Filled
+  more out b p at step v h t g e = record {
+    long = length-set out at v ∙ t.long;
+    here = omega (arith, t.here, chain_next w b p (b + p) (omega arith));
+    filled = λ k i a c. pick k i a c (ℕ_discrete k at);
+  }
+    where
+      pick : (k : ℕ) → k < length l → others w k ≤ b → (b ≤ others w k → mine w k < p + 1) → Dec (k ≡ at) → get_or (set out at v) k (pos 0) ≡ moved_at w s l k
+      pick k i a c (yes z) = rw z (get_or-set_same out at v (pos 0) (omega (arith, t.long)) ∙ e ∙ ap (moved_at w s l) (sym t.here))
+      pick k i a c (no z) =
+          get_or-set_other out at k v (pos 0) z
+          ∙ t.filled k i a (λ d. N.lt_of_not-le (λ y. z (sym (chain-powers w k) ∙ ap₂ (chain w) (omega arith) (omega (arith, c d)) ∙ sym t.here)))
+
+  -- a place that is not passed is not before the one where the loop stands
+  ahead : (b p k : ℕ) → b ≤ others w k → p ≤ mine w k → chain w b p ≤ k
+  ahead b p k h i = omega (arith, chain-rises w b p (others w k) (mine w k) h i, chain-powers w k)
+
+  -- a chain has left the group, and the loop goes on to the next chain
+  next-chain : (out : List ℤ) (b p at start step : ℕ) → length l ≤ at → Stands w s l out b p at → start ≡ chain w b 0 → step ≡ gap (own w Second First) b → Stands w s l out (b + 1) 0 (start + step)
+  unfolding Filled
+  next-chain out b p at start step h t e g = record {
+    long = t.long;
+    here = omega (arith, chain-beside w b);
+    filled = λ k i a c.
+        let low : others w k < b + 1 = N.lt_of_not-le (λ d. omega (arith, c d)) in
+        t.filled k i (omega arith) (λ d. N.lt_of_not-le (λ y. omega (arith, ahead b p k d y, t.here)));
+  }
+
+  -- the first place of a chain is past the group
+  full : (out : List ℤ) (b at : ℕ) → length l ≤ at → Stands w s l out b 0 at → out ≡ moved w s l
+  unfolding Filled moved_at replaced
+  full out b at h t =
+      sym (listed-is (pos 0) (length l) (moved_at w s l) out t.long (λ k i.
+      let low : others w k < b = N.lt_of_not-le (λ d. omega (arith, ahead b 0 k d (omega arith), t.here)) in
+      t.filled k i (omega arith) (λ d. absurd (omega arith))))
+
+-- the gap to the next chain, as it came back
+gap_is : (w : Variable) (b : ℕ) {v : Variable} {step : ℕ} → step ≡ gap v b → v ≡ own w Second First → step ≡ gap (own w Second First) b
+gap_is w b e h = e ∙ ap (λ u. gap u b) h
+
+-- ---- the goals
+pub loop-start-init : goal.loop-start-init
+unfolding below
+loop-start-init g c = record {
+  long = c.requires.1.1.1;
+  here = by c.args.which;
+  filled = none c.args.which g.s c.args.from.now c.args.out.now;
+}
+  where
+    by : (v : Variable) → 0 ≡ chain v 0 0
+    by First = refl
+    by Second = refl
+
+pub loop-at-init : goal.loop-at-init
+loop-at-init g c = c.loop-start.invariant
+
+pub moved_number-x-requires : goal.moved_number-x-requires
+moved_number-x-requires g c = (c.requires.0, (c.requires.1.0, (c.requires.1.1.0, (c.loop-at.invariant.here, c.loop-at-test.true))))
+
+pub bounds-out-at : goal.bounds-out-at
+bounds-out-at g c = omega (arith, c.loop-at.invariant.long, c.loop-at-test.true)
+
+pub overflow_add-beside : goal.overflow_add-beside
+overflow_add-beside g c = omega (arith, degree c.args.which g.s c.args.from.now c.loop-at.invariant c.loop-at-test.true c.requires.1.1.0)
+
+pub gap-at-requires : goal.gap-at-requires
+gap-at-requires g c = omega (arith, degree c.args.which g.s c.args.from.now c.loop-at.invariant c.loop-at-test.true c.requires.1.1.0)
+
+pub overflow_add-at : goal.overflow_add-at
+overflow_add-at g c =
+    let near = gap-near c.args.which (c.loop-start.beside + c.loop-at.p) c.gap-at.ensures in
+    omega (arith, near.1, degree c.args.which g.s c.args.from.now c.loop-at.invariant c.loop-at-test.true c.requires.1.1.0, c.loop-at-test.true, c.requires.1.1.0.few)
+
+pub overflow_add-p : goal.overflow_add-p
+overflow_add-p g c = omega (arith, degree c.args.which g.s c.args.from.now c.loop-at.invariant c.loop-at-test.true c.requires.1.1.0)
+
+pub loop-at-smaller : goal.loop-at-smaller
+loop-at-smaller g c =
+    let near = gap-near c.args.which (c.loop-start.beside + c.loop-at.p) c.gap-at.ensures in
+    omega (arith, near.0, c.loop-at-test.true)
+
+pub loop-at-preserved : goal.loop-at-preserved
+loop-at-preserved g c =
+    let f : SFits w64 c.moved_number-x.result = search rules in
+    more c.args.which g.s c.args.from.now c.loop-at.out c.loop-start.beside c.loop-at.p c.loop-at.at c.gap-at.result _ c.loop-at-test.true c.loop-at.invariant c.gap-at.ensures
+    (to_z-of_z {w = w64} f ∙ c.moved_number-x.ensures ∙ number-there c.args.which g.s c.args.from.now c.loop-start.beside c.loop-at.p)
+
+pub gap-start-requires : goal.gap-start-requires
+gap-start-requires g c = omega (arith, degree c.args.which g.s c.args.from.now c.loop-start.invariant c.loop-start-test.true c.requires.1.1.0)
+
+pub overflow_add-start : goal.overflow_add-start
+overflow_add-start g c =
+    let near = gap-near (own c.args.which Second First) c.loop-start.beside (gap_is c.args.which c.loop-start.beside c.gap-start.ensures c.other.ensures) in
+    omega (arith, near.1, degree c.args.which g.s c.args.from.now c.loop-start.invariant c.loop-start-test.true c.requires.1.1.0, c.loop-start-test.true, c.requires.1.1.0.few)
+
+pub overflow_add-beside-in-loop-start : goal.overflow_add-beside-in-loop-start
+overflow_add-beside-in-loop-start g c = omega (arith, degree c.args.which g.s c.args.from.now c.loop-start.invariant c.loop-start-test.true c.requires.1.1.0)
+
+pub loop-start-smaller : goal.loop-start-smaller
+loop-start-smaller g c =
+    let near = gap-near (own c.args.which Second First) c.loop-start.beside (gap_is c.args.which c.loop-start.beside c.gap-start.ensures c.other.ensures) in
+    omega (arith, near.0, c.loop-start-test.true)
+
+pub loop-start-preserved : goal.loop-start-preserved
+loop-start-preserved g c =
+    next-chain c.args.which g.s c.args.from.now c.loop-at.out c.loop-start.beside c.loop-at.p c.loop-at.at c.loop-start.start c.gap-start.result c.loop-at-test.false c.loop-at.invariant c.loop-start.invariant.here
+    (gap_is c.args.which c.loop-start.beside c.gap-start.ensures c.other.ensures)
+
+pub returns : goal.returns
+returns g c = full c.args.which g.s c.args.from.now c.loop-start.out c.loop-start.beside c.loop-start.start c.loop-start-test.false c.loop-start.invariant
