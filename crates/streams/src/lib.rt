@@ -1,78 +1,83 @@
-// Reading and writing that try again where a signal interrupted the call, or where it would have had to wait. Of C's calls none is
-// declared that waits until a stream is ready, so before the next try the processor is left to whoever else wants it.
-ghost use Rattle.std.specs.Prelude.{◌≡◌, length};
-ghost use Rattle.streams.specs.Outcomes.{outcome_of, Got, Put};
+// Reading and writing that try again where a signal interrupted the call, or where it would have had to wait. Of the library's calls none
+// waits until a stream is ready, so before the next try the processor is left to whoever else wants it.
+#![tactic(auto)]
 
-use libc::{EAGAIN, EINTR};
+ghost use Rattle.std.specs.Prelude.{◌≡◌, length};
+ghost use Rattle.streams.specs.Outcomes.{outcome_of, Got, Put, Took, Gave, GaveAll};
+
+use std::io::{Cursor, ErrorKind, Read, Write};
+use std::thread::yield_now;
+use std::{io, str};
 
 // What a call came to: so many bytes were moved; none, and it is to be tried again; or it failed.
 #[derive(Drop)]
 pub enum Outcome {
     Moved(usize),
     Again,
-    Failed,
+    Failed(io::Error),
 }
 
-// What the answer of C's `read` or `write` comes to. The error tells why an answer is below 0.
-fn comes_to(answer: isize, error: i32) -> Outcome
-    ensures { result ≡ outcome_of answer error }
+// What the answer of a reader's `read` or of a writer's `write` comes to.
+fn comes_to(answer: io::Result<usize>) -> Outcome
+    ensures { result ≡ outcome_of answer }
 {
-    if answer >= 0 {
-        return Outcome::Moved(answer as usize);
-    }
-    match error {
-        EINTR | EAGAIN => Outcome::Again,
-        _ => Outcome::Failed,
+    match answer {
+        Ok(n) => Outcome::Moved(n),
+        Err(error) => match error.kind() {
+            ErrorKind::Interrupted | ErrorKind::WouldBlock => Outcome::Again,
+            _ => Outcome::Failed(error),
+        },
     }
 }
 
 // Reads some bytes to the start of buf, none at the end of the input, or fails. A proved loop has to end, so it counts its turns down
 // from a number that no run uses up.
-pub fn read(fd: i32, buf: &mut [u8]) -> Outcome
-    ensures { Got (length buf.old) result }
+pub fn read<R: Read>(from: &mut R, buf: &mut [u8]) -> Outcome
+    ensures count { Got (length buf.old) result }
+    ensures bytes { Took (R.remaining from.old) (R.remaining from.new) buf.new result }
 {
     let mut turns = u64::MAX;
     while turns > 0 {
         turns -= 1;
-        let answer = libc::read(fd, buf);
-        let got = comes_to(answer, os::errno());
+        let got = comes_to(from.read(buf));
         let Outcome::Again = got else {
             return got;
         };
-        libc::sched_yield();
+        yield_now();
     }
-    Outcome::Failed
+    Outcome::Failed(io::Error::from(ErrorKind::TimedOut))
 }
 
 // Writes some of buf's first bytes, or fails.
-fn write_some(fd: i32, buf: &[u8]) -> Outcome
-    ensures { Got (length buf.now) result }
+fn write_some<W: Write>(to: &mut W, buf: &[u8]) -> Outcome
+    ensures count { Got (length buf.now) result }
+    ensures bytes { Gave (W.contents to.old) (W.contents to.new) buf.now result }
 {
     let mut turns = u64::MAX;
     while turns > 0 {
         turns -= 1;
-        let answer = libc::write(fd, buf);
-        let took = comes_to(answer, os::errno());
+        let took = comes_to(to.write(buf));
         let Outcome::Again = took else {
             return took;
         };
-        libc::sched_yield();
+        yield_now();
     }
-    Outcome::Failed
+    Outcome::Failed(io::Error::from(ErrorKind::TimedOut))
 }
 
 // Writes all of buf, or fails where a write does or takes nothing.
-pub fn write(fd: i32, buf: &[u8]) -> Outcome
-    ensures { Put (length buf.now) result }
+pub fn write<W: Write>(to: &mut W, buf: &[u8]) -> Outcome
+    ensures count { Put (length buf.now) result }
+    ensures bytes { GaveAll (W.contents to.old) (W.contents to.new) buf.now result }
 {
     let mut done: usize = 0;
     while done < buf.len() {
-        let put = write_some(fd, &buf[done..]);
+        let put = write_some(to, &buf[done..]);
         let Outcome::Moved(n) = put else {
             return put;
         };
         if n == 0 {
-            return Outcome::Failed;
+            return Outcome::Failed(io::Error::from(ErrorKind::WriteZero));
         }
         done += n;
     }
@@ -83,15 +88,36 @@ pub fn write(fd: i32, buf: &[u8]) -> Outcome
 #[derive(Drop)]
 pub enum End {
     Done,
-    Unread,
-    Unwritten,
+    Unread(io::Error),
+    Unwritten(io::Error),
 }
 
-// Says in one line on standard error what could not be done, and why, as C's errno still has it.
-pub fn tell(end: End, unread: &[u8], unwritten: &[u8]) {
+// Says in one line, to standard error as it is called, what could not be done, and why, in the system's words.
+pub fn tell<W: Write>(to: &mut W, end: End, unread: &[u8], unwritten: &[u8]) {
     match end {
         End::Done => {}
-        End::Unread => os::fail(unread),
-        End::Unwritten => os::fail(unwritten),
+        End::Unread(error) => fail(to, unread, &error),
+        End::Unwritten(error) => fail(to, unwritten, &error),
+    }
+}
+
+// Writes what could not be done, a colon and the reason, and a newline. Where that can't be written either, there is nobody to be told.
+fn fail<W: Write>(to: &mut W, what: &[u8], error: &io::Error) {
+    let mut room = Cursor::new([0u8; 256]);
+    let _ = write!(room, "{error}");
+    let length = room.position().min(256) as usize;
+    let bytes = room.into_inner();
+    let text = str::from_utf8(&bytes[..length]).unwrap_or("");
+    let _ = write(to, what);
+    let _ = write(to, b": ");
+    let _ = write(to, reason(text).as_bytes());
+    let _ = write(to, b"\n");
+}
+
+// An error's text without the number that the library sets behind the system's words.
+fn reason(text: &str) -> &str {
+    match text.split_once(" (os error ") {
+        Some((words, _)) => words,
+        None => text,
     }
 }
