@@ -17,10 +17,10 @@ use Rattle.weights.proofs.all_reaches.Tie as tie
 abbrev Right : List ℕ → List Reach → ℕ → Type 0
 Right sizes l j = ((reach_in l j).size ≡ get_or sizes j 0) × Reached (reach_in l j)
 
-abbrev invariant-loop : tie.invariant-loop
+abbrev invariant-loop : tie.invariant-loop-k
 invariant-loop sizes reaches₀ k₀ reaches k = (k ≤ reaches_room) × (length reaches ≡ reaches_room) × ((j : ℕ) → j < k → Right sizes reaches j)
 
-abbrev decreases-loop : tie.decreases-loop
+abbrev decreases-loop : tie.decreases-loop-k
 decreases-loop sizes reaches₀ k₀ reaches k = reaches_room - k
 
 -- one reach more
@@ -34,61 +34,48 @@ more sizes l k r h before now j b = pick (dec_lt j k)
         let e : k ≡ j = omega arith in
         subst (λ j. Right sizes (set l k r) j) e (subst (λ (q : Reach). (q.size ≡ get_or sizes k 0) × Reached q) (sym (get_or-set_same l k r _ h)) now)
 
-of-requires : tie.Need-of-requires invariant-loop decreases-loop
+of-requires : tie.Need-of-reaches-requires invariant-loop decreases-loop
 of-requires c κs = omega arith
 
-loop-holds : tie.Need-loop-init invariant-loop decreases-loop
+loop-holds : tie.Need-loop-k-init invariant-loop decreases-loop
 loop-holds c = (omega arith, refl, λ j h. absurd (omega arith))
 
-mul-of : tie.Need-overflow-mul-of invariant-loop decreases-loop
+mul-of : tie.Need-offset_bounds-sizes-k invariant-loop decreases-loop
 mul-of c = search rules
 
-array-read-of : tie.Need-array-read-of invariant-loop decreases-loop
+array-read-of : tie.Need-bounds-sizes-k invariant-loop decreases-loop
 array-read-of c = search rules
 
-of-requires-2 : tie.Need-of-requires-2 invariant-loop decreases-loop
-of-requires-2 c κs = c.before.before.before.requires c.before.loop.k c.loop-test.true
+of-requires-2 : tie.Need-of-reach-requires invariant-loop decreases-loop
+of-requires-2 c κs = c.before.before.before.requires c.before.loop-k.k c.loop-k-test.true
 
-mul-reaches : tie.Need-overflow-mul-reaches invariant-loop decreases-loop
+mul-reaches : tie.Need-offset_bounds-reaches-k invariant-loop decreases-loop
 mul-reaches c = search rules
 
-array-set-from-reaches : tie.Need-array-set-from-reaches invariant-loop decreases-loop
+array-set-from-reaches : tie.Need-bounds-reaches-k invariant-loop decreases-loop
 array-set-from-reaches c = search rules
 
-add-k : tie.Need-overflow-add-k invariant-loop decreases-loop
+add-k : tie.Need-overflow_add-k invariant-loop decreases-loop
 add-k c = search rules
 
-loop-less : tie.Need-loop-smaller invariant-loop decreases-loop
+loop-less : tie.Need-loop-k-smaller invariant-loop decreases-loop
 loop-less c = search rules
 
-loop-again : tie.Need-loop-preserved invariant-loop decreases-loop
+loop-again : tie.Need-loop-k-preserved invariant-loop decreases-loop
 loop-again c =
-    let l = c.before.before.loop in (
-      omega (arith, c.before.loop-test.true),
+    let l = c.before.before.loop-k in (
+      omega (arith, c.before.loop-k-test.true),
       length-set l.reaches l.k _ ∙ l.invariant.1,
-      more c.before.before.before.before.args.t1 l.reaches l.k c.of2.result (omega (arith, l.invariant.1, c.before.loop-test.true)) l.invariant.2 c.of2.ensures,
+      more c.before.before.before.before.args.sizes l.reaches l.k c.of-reach.result (omega (arith, l.invariant.1, c.before.loop-k-test.true)) l.invariant.2 c.of-reach.ensures,
     )
 
 returns : tie.Need-returns invariant-loop decreases-loop
 returns c =
-    let l = c.before.loop in
-    let e : l.k ≡ reaches_room = omega (arith, l.invariant.0, c.loop-test.false) in
+    let l = c.before.loop-k in
+    let e : l.k ≡ reaches_room = omega (arith, l.invariant.0, c.loop-k-test.false) in
     record { long = l.invariant.1; same = λ k h. (l.invariant.2 k (omega arith)).0; reached = λ k h. (l.invariant.2 k (omega arith)).1 }
 
-pub all-reaches-spec : {M : Type 1} → statement M
-all-reaches-spec =
+pub all_reaches_spec : {M : Type 1} → statement M
+all_reaches_spec =
     tie.close
-    (tie.spec
-    invariant-loop
-    decreases-loop
-    of-requires
-    loop-holds
-    mul-of
-    array-read-of
-    of-requires-2
-    mul-reaches
-    array-set-from-reaches
-    add-k
-    loop-less
-    loop-again
-    returns)
+    (tie.spec invariant-loop decreases-loop of-requires loop-holds mul-of array-read-of of-requires-2 mul-reaches array-set-from-reaches add-k loop-less loop-again returns)

@@ -39,69 +39,55 @@ module _ (t : List ℤ) (at : ℕ) (k : Kind) (l : List Reach) (ready : GroupWei
   is-weight : weight group (reach_in l (k.u + 1)).size (reach_in l (k.v + 1)).size ≡ weight_of (led k (drop at t)) (high_in l)
   is-weight = λ i. weight (take (count-is i) (drop at t)) (reach_in l (add-one k.u i)).size (reach_in l (add-one k.v i)).size
 
-add-u : tie.Need-overflow-add-u
+add-u : tie.Need-overflow_add-u
 add-u c = search rules
 
-add-v : tie.Need-overflow-add-v
+add-v : tie.Need-overflow_add-v
 add-v c = search rules
 
 size-requires : tie.Need-size-requires
 size-requires c κs = search rules
 
-add-end : tie.Need-overflow-add-end
+add-end : tie.Need-overflow_add-end
 add-end c = search rules
 
-mul-weight-at : tie.Need-overflow-mul-weight-at
+mul-weight-at : tie.Need-offset_bounds-table-at
 mul-weight-at c = search rules
 
-sub-weight-at : tie.Need-overflow-sub-weight-at
+sub-weight-at : tie.Need-slice_bounds-weight_at-count
 sub-weight-at c = search rules
 
-part-weight-at-start : tie.Need-slice-bounds-weight-at-start
+part-weight-at-start : tie.Need-slice_bounds-weight_at-start
 part-weight-at-start c = search rules
 
-part-weight-at-end : tie.Need-slice-bounds-weight-at-end
+part-weight-at-end : tie.Need-slice_bounds-weight_at-end
 part-weight-at-end c = search rules
 
-mul-weight-at-2 : tie.Need-overflow-mul-weight-at-2
+mul-weight-at-2 : tie.Need-offset_bounds-reaches-u
 mul-weight-at-2 c = search rules
 
-array-copy-out-weight-at : tie.Need-array-copy-out-weight-at
+array-copy-out-weight-at : tie.Need-bounds-reaches-u
 array-copy-out-weight-at c = search rules
 
-mul-weight-at-3 : tie.Need-overflow-mul-weight-at-3
+mul-weight-at-3 : tie.Need-offset_bounds-reaches-v
 mul-weight-at-3 c = search rules
 
-array-copy-out-weight-at-2 : tie.Need-array-copy-out-weight-at-2
+array-copy-out-weight-at-2 : tie.Need-bounds-reaches-v
 array-copy-out-weight-at-2 c = search rules
 
-weight-at-requires : tie.Need-weight-at-requires
+weight-at-requires : tie.Need-weight_at-requires
 weight-at-requires c κs =
     let z = c.before.before.before in
     let a = z.before.before.before in
-    weighable a.args.table.now a.args.at a.args.kind a.args.t4 a.requires z.size.result z.size.ensures
+    weighable a.args.table.now a.args.at a.args.kind a.args.reaches a.requires z.size.result z.size.ensures
 
 returns : tie.Need-returns
 returns c =
     let z = c.before.before.before.before in
     let a = z.before.before.before in
-    c.weight-at.ensures ∙ ap against (is-weight a.args.table.now a.args.at a.args.kind a.args.t4 a.requires z.size.result z.size.ensures)
+    c.weight_at.ensures ∙ ap against (is-weight a.args.table.now a.args.at a.args.kind a.args.reaches a.requires z.size.result z.size.ensures)
 
-pub weight-of-spec : {M : Type 1} → statement M
-weight-of-spec =
+pub weight_of_spec : {M : Type 1} → statement M
+weight_of_spec =
     tie.close
-    (tie.spec
-    add-u
-    add-v
-    size-requires
-    add-end
-    mul-weight-at
-    sub-weight-at
-    part-weight-at-start
-    part-weight-at-end
-    mul-weight-at-2
-    array-copy-out-weight-at
-    mul-weight-at-3
-    array-copy-out-weight-at-2
-    weight-at-requires
-    returns)
+    (tie.spec add-u add-v size-requires add-end mul-weight-at sub-weight-at part-weight-at-start part-weight-at-end mul-weight-at-2 array-copy-out-weight-at mul-weight-at-3 array-copy-out-weight-at-2 weight-at-requires returns)
