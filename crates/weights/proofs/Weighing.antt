@@ -1,9 +1,9 @@
 -- The weight of a coefficient: that of its piece's own group, and that of the groups that the pieces share.
 --   Weighing          what a loop over the shared groups has weighed, with weighing-none, next-inside, weighing-more and weighing-all
 --   own_weight, both_weight, coefficient-weight   a coefficient's weight by the two
-use mathlib.Core.Path.{◌≡◌, refl, sym, ◌∙◌, ap, ap₂, subst}
+use mathlib.Core.Path.{◌≡◌, refl, sym, ◌∙◌, ap, ap₂}
 use mathlib.Core.List.{List, [], ◌∷◌}
-use Prim.Native.Nat.{ℕ, zero, suc, ◌+◌, ◌*◌, ◌≤◌, ◌<◌}
+use Prim.Native.Nat.{ℕ, zero, suc, ◌+◌, ◌≤◌, ◌<◌}
 use native.Mathlib.Omega.{arith}
 use lib.IntN.{ℤ}
 use lib.ListN.{length, take, drop}

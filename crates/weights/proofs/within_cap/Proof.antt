@@ -1,9 +1,9 @@
 -- `weights::within_cap` meets its contract. The loops' invariants: the blocks and the pieces passed are within the cap, and the sum is the weight of the
 -- rows passed. Where one row more passes the cap, the whole weight does, and so not all are within it. Assumes nothing.
-use mathlib.Core.Path.{◌≡◌, refl, sym, ◌∙◌, ap, subst}
+use mathlib.Core.Path.{◌≡◌, sym, ◌∙◌, ap, subst}
 use mathlib.Core.Bool.{Bool, true, false}
 use mathlib.Core.List.{List}
-use Prim.Native.Nat.{ℕ, suc, ◌+◌, ◌*◌, ◌-◌, ◌≤◌, ◌<◌}
+use Prim.Native.Nat.{ℕ, ◌+◌, ◌*◌, ◌-◌, ◌≤◌, ◌<◌}
 use native.Mathlib.Nat as N
 use native.Mathlib.Numerals.{add-one}
 use native.Mathlib.Omega.{arith}
@@ -19,6 +19,7 @@ use Rattle.polynomials.specs.Downward.{row_weight}
 use Rattle.polynomials.specs.Limits.{cap, against}
 use Rattle.polynomials.specs.Ready.{Reached}
 use Rattle.polynomials.specs.declared.Reach.{Reach}
+use Rattle.polynomials.specs.declared.Weighed.{Weighed}
 use Rattle.polynomials.proofs.Cap.{within-against, passed-against, within-joint, passed-joint}
 use Rattle.polynomials.proofs.DownwardBounds.{rows_weight, rows_none, rows_more, rows-part, rows_all}
 use Rattle.layout.specs.declared.Kind.{Kind}
@@ -91,7 +92,7 @@ module _ (a : tie.After-blocks-blocks invariant-loop2 decreases-loop2 invariant-
   n = a.before.before.before.size-size.result
 
   abbrev v : Reach
-  v = reach_in reaches (k.v-1 + 1)
+  v = reach_in reaches (k.v + 1)
 
   measured : Measured sizes reaches
   measured = a.before.before.before.before.before.all_reaches-reaches.ensures
@@ -106,10 +107,10 @@ module _ (a : tie.After-blocks-blocks invariant-loop2 decreases-loop2 invariant-
   size_is = a.before.before.before.size-size.ensures
 
   v-reached : Reached v
-  v-reached = measured.reached (k.v-1 + 1) (omega (arith, k-fine.second, few-variables model))
+  v-reached = measured.reached (k.v + 1) (omega (arith, k-fine.second, few-variables model))
 
-  v-is : v.size ≡ high_in reaches (own S).v-1
-  v-is = ap (λ i. (reach_in reaches i).size) (add-one k.v-1) ∙ ap (λ (k : Kind). high_in reaches k.v-1) own_is
+  v-is : v.size ≡ high_in reaches (own S).v
+  v-is = ap (λ i. (reach_in reaches i).size) (add-one k.v) ∙ ap (λ (k : Kind). high_in reaches k.v) own_is
 
   -- what a coefficient weighs: in the piece's own group, in what the pieces share, and in all
   abbrev own_of : ℕ → ℕ → ℕ
@@ -149,16 +150,16 @@ module _ (c : tie.After-start-start invariant-loop2 decreases-loop2 invariant-lo
   below : block < (S ready).blocks
   below = omega (arith, c.before.blocks-2-test.true, ready.blocks-blocks.ensures)
 
-shared-weight : (c : tie.After-shared invariant-loop2 decreases-loop2 invariant-loop decreases-loop invariant-blocks2 decreases-blocks2) → let d = c.before in c.shared.result ≡ against (both_of (ready d) (block d))
-shared-weight c =
-    let d = c.before in
-    c.shared.ensures ∙ ap (λ m. against (total_weight (groups (shared (S (ready d))) (drop (shared_at (S (ready d)) m) (table (ready d)))) (high_in (reaches (ready d))))) d.start-start.ensures
+shared-weight : (d : tie.After-start-start invariant-loop2 decreases-loop2 invariant-loop decreases-loop invariant-blocks2 decreases-blocks2) {w : Weighed}
+    → w ≡ against (total_weight (groups (shared (S (ready d))) (drop (shared_at (S (ready d)) d.start-start.result) (table (ready d)))) (high_in (reaches (ready d))))
+    → w ≡ against (both_of (ready d) (block d))
+shared-weight d h =
+    h ∙ ap (λ m. against (total_weight (groups (shared (S (ready d))) (drop (shared_at (S (ready d)) m) (table (ready d)))) (high_in (reaches (ready d))))) d.start-start.ensures
 
-shared-is : (c : tie.In-Within invariant-loop2 decreases-loop2 invariant-loop decreases-loop invariant-blocks2 decreases-blocks2) → let d = c.before.before.before.before in (c.before.both-1.given.0.0 ≡ both_of (ready d) (block d)) × (both_of (ready d) (block d) ≤ cap)
+shared-is : (c : tie.In-Within invariant-loop2 decreases-loop2 invariant-loop decreases-loop invariant-blocks2 decreases-blocks2) → let d = c.before.before in (c.in-Within.both ≡ both_of (ready d) (block d)) × (both_of (ready d) (block d) ≤ cap)
 shared-is c =
-    let s = c.before.before.before in
-    let d = s.before in
-    within-against c.before.both-1.given.0.0 (both_of (ready d) (block d)) (sym c.before.both-1.given.1 ∙ shared-weight s)
+    let d = c.before.before in
+    within-against c.in-Within.both (both_of (ready d) (block d)) (shared-weight d c.in-Within.ensures)
 
 -- ════ at a piece: its own group and the rows of it
 module _ (g : tie.After-u-1 invariant-loop2 decreases-loop2 invariant-loop decreases-loop invariant-blocks2 decreases-blocks2) where
@@ -169,7 +170,7 @@ module _ (g : tie.After-u-1 invariant-loop2 decreases-loop2 invariant-loop decre
   told = at_pieces.before
 
   abbrev started : tie.After-start-start invariant-loop2 decreases-loop2 invariant-loop decreases-loop invariant-blocks2 decreases-blocks2
-  started = told.before.before.before.before
+  started = told.before.before
 
   abbrev here : tie.After-blocks-blocks invariant-loop2 decreases-loop2 invariant-loop decreases-loop invariant-blocks2 decreases-blocks2
   here = ready started
@@ -251,7 +252,7 @@ module _ (c : tie.After-add_row invariant-loop2 decreases-loop2 invariant-loop d
   more-is : product + row ≡ rest lent q
   more-is =
       let u : degree lent + 1 - at_rows.loop-row.row ≡ q + 1 = omega (arith, below-degree) in
-      rows_more (degree lent) (group lent) (reach_in (reaches (here lent)) (p lent)).size (v (here lent)).size q (omega arith) (at_rows.loop-row.inv.1 ∙ ap (rest lent) u)
+      rows_more (degree lent) (group lent) (reach_in (reaches (here lent)) (p lent)).size (v (here lent)).size q (omega arith) (at_rows.loop-row.invariant.1 ∙ ap (rest lent) u)
 
 all-reaches-requires : tie.Need-all_reaches-reaches-requires invariant-loop2 decreases-loop2 invariant-loop decreases-loop invariant-blocks2 decreases-blocks2
 all-reaches-requires c κs = search rules
@@ -304,16 +305,16 @@ array-copy-out-u : tie.Need-bounds-reaches-piece invariant-loop2 decreases-loop2
 array-copy-out-u c = omega (arith, c.loop-piece-test.true)
 
 mul-from : tie.Need-overflow_mul-from invariant-loop2 decreases-loop2 invariant-loop decreases-loop invariant-blocks2 decreases-blocks2
-mul-from c = omega (arith, end c, few-table (model (here c)), (entry (here c)).pre.whole)
+mul-from c = omega (arith, end c, few-table (model (here c)), (entry (here c)).requires.whole)
 
 add-from : tie.Need-overflow_add-from invariant-loop2 decreases-loop2 invariant-loop decreases-loop invariant-blocks2 decreases-blocks2
-add-from c = omega (arith, end c, few-table (model (here c)), (entry (here c)).pre.whole)
+add-from c = omega (arith, end c, few-table (model (here c)), (entry (here c)).requires.whole)
 
 add-to : tie.Need-overflow_add-to invariant-loop2 decreases-loop2 invariant-loop decreases-loop invariant-blocks2 decreases-blocks2
-add-to c = omega (arith, end c, few-table (model (here c)), (entry (here c)).pre.whole)
+add-to c = omega (arith, end c, few-table (model (here c)), (entry (here c)).requires.whole)
 
 mul-group : tie.Need-offset_bounds-table-from invariant-loop2 decreases-loop2 invariant-loop decreases-loop invariant-blocks2 decreases-blocks2
-mul-group c = omega (arith, end c, few-table (model (here c)), (entry (here c)).pre.whole)
+mul-group c = omega (arith, end c, few-table (model (here c)), (entry (here c)).requires.whole)
 
 sub-group : tie.Need-slice_bounds-group-count invariant-loop2 decreases-loop2 invariant-loop decreases-loop invariant-blocks2 decreases-blocks2
 sub-group c = omega arith
@@ -343,16 +344,16 @@ enum-told-2 : tie.Need-enum_told-in_default-add_row invariant-loop2 decreases-lo
 enum-told-2 c = search rules
 
 add_row : tie.Need-overflow_step-row invariant-loop2 decreases-loop2 invariant-loop decreases-loop invariant-blocks2 decreases-blocks2
-add_row c = let d = c.before.before.before in omega (arith, below-degree d, (k-fine (here (lent d))).few)
+add_row c = let d = c.before in omega (arith, below-degree d, (k-fine (here (lent d))).few)
 
 loop2-less : tie.Need-loop-row-smaller invariant-loop2 decreases-loop2 invariant-loop decreases-loop invariant-blocks2 decreases-blocks2
 loop2-less c = search rules
 
 loop2-again : tie.Need-loop-row-preserved invariant-loop2 decreases-loop2 invariant-loop decreases-loop invariant-blocks2 decreases-blocks2
 loop2-again c =
-    let d = c.before.before.before in
+    let d = c.before in
     let u : q d ≡ degree (lent d) + 1 - ((at_rows d).loop-row.row + 1) = omega (arith, below-degree d) in
-    (omega (arith, below-degree d), within-joint (product d) (row d) c.before.more-1.given.0.0 (sym c.before.more-1.given.1 ∙ d.add_row.ensures) ∙ more-is d ∙ ap (rest (lent d)) u, search rules)
+    (omega (arith, below-degree d), within-joint (product d) (row d) c.in-Within-add_row.more c.in-Within-add_row.ensures ∙ more-is d ∙ ap (rest (lent d)) u, search rules)
 
 sub-if1 : tie.Need-overflow_sub-both invariant-loop2 decreases-loop2 invariant-loop decreases-loop invariant-blocks2 decreases-blocks2
 sub-if1 c = let k = shared-is (told c.before.before.before) in omega (arith, k.0, k.1)
@@ -386,7 +387,7 @@ blocks2-less c = search rules
 blocks2-again : tie.Need-blocks-2-preserved invariant-loop2 decreases-loop2 invariant-loop decreases-loop invariant-blocks2 decreases-blocks2
 blocks2-again c =
     let p = c.before.loop-piece in
-    let d = c.before.before.before.before.before.before in
+    let d = c.before.before.before.before in
     let a = ready d in
     let u : p.piece ≡ 2 = omega (arith, p.invariant.0, c.loop-piece-test.false) in (
       omega (arith, below d),
@@ -402,16 +403,15 @@ returns c =
 
 returns-2 : tie.Need-returns-in_default invariant-loop2 decreases-loop2 invariant-loop decreases-loop invariant-blocks2 decreases-blocks2
 returns-2 c =
-    let s = c.before.before in
-    let d = s.before in
-    let h : cap < both_of (ready d) (block d) = passed-against _ (sym c.enum_told-1.given.1 ∙ shared-weight s) in
+    let d = c.before.before in
+    let h : cap < both_of (ready d) (block d) = passed-against _ (shared-weight d c.in_default.ensures) in
     past (ready d) (block d) 0 (below d) (omega arith) (omega arith)
 
 returns-3 : tie.Need-returns-in_default-add_row invariant-loop2 decreases-loop2 invariant-loop decreases-loop invariant-blocks2 decreases-blocks2
 returns-3 c =
-    let d = c.before.before in
+    let d = c.before in
     let g = lent d in
-    let h = passed-joint (product d) (row d) (sym c.enum_told-in_default-add_row-1.given.1 ∙ d.add_row.ensures) in
+    let h = passed-joint (product d) (row d) c.in_default-add_row.ensures in
     past (here g) (b g) (p g) (below (started g)) (half g) (omega (arith, h, more-is d, part g (q d) (omega arith)))
 
 returns-4 : tie.Need-returns-then-sum-both invariant-loop2 decreases-loop2 invariant-loop decreases-loop invariant-blocks2 decreases-blocks2
