@@ -11,9 +11,7 @@ use Rattle.commands.specs.declared.Name.{Name}
 use Rattle.commands.specs.declared.Name.TheVariants as N
 use Rattle.commands.specs.declared.State.{State}
 use Rattle.commands.specs.declared.State.TheVariants as S
-use Rattle.commands.specs.declared.Operation.{Operation}
 use Rattle.commands.specs.declared.Operation.TheVariants as O
-use Rattle.commands.specs.declared.Keeping.{Keeping}
 use Rattle.commands.specs.declared.Keeping.TheVariants as K
 use Rattle.commands.specs.declared.Command.{Command}
 use Rattle.commands.specs.declared.Command.TheVariants as C

@@ -1,5 +1,6 @@
 // What a line of a script asks for: a command and its numbers.
 #![tactic(auto)]
+
 ghost use Rattle.std.specs.Prelude.{◌≡◌, ◌≤◌, ◌<◌, length, drop};
 ghost use Rattle.std.proofs.Math.Seq.{slice};
 ghost use Rattle.words.specs.Words.{words, word_at};

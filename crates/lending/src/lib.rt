@@ -1,6 +1,7 @@
 // The room that an operation is lent, filled with a pattern, with more of it on both sides; and what is said of it afterwards. The bytes
 // of an answer are compared with those that the second program works out; proved is that everything stays within its room.
 #![tactic(auto)]
+
 use layout::refusals::DONE;
 use spaces::drawing::{checksum, signed};
 use spaces::rooms::{ALL, ROOM, length_of, start_of};

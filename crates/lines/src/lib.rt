@@ -1,5 +1,6 @@
 // Reading a line of five whole numbers, byte by byte: what is known of the bytes so far is one value, so a line may come in pieces of any size.
 #![tactic(auto)]
+
 ghost use Rattle.std.specs.Prelude.{◌≡◌, ◌≤◌};
 ghost use Rattle.lines.specs.State.{start, number_of, refused, ended, minus, digit, stepped, finished};
 

@@ -1,6 +1,7 @@
 // Texts in rooms of a fixed size: the bytes of a line as they come, and the parts of an answer, each written from a place on. Each part
 // gives the place behind it, and what has no room is cut off.
 #![tactic(auto)]
+
 ghost use Rattle.std.specs.Prelude.{◌≡◌, ◌≤◌, min};
 ghost use Rattle.texts.specs.Held.{held_after, line_after};
 ghost use Rattle.texts.specs.Room.{answers_room};

@@ -1,5 +1,4 @@
 -- `commands::fits` meets its contract: the bytes of the code are the text. Assumes nothing.
-use mathlib.Core.Path.{refl}
 use borrow.Author.Rules.{rules}
 use Rattle.commands.specs.Commands.{kinds}
 use Rattle.commands.proofs.fits.Statement.{statement}

@@ -98,8 +98,8 @@ put-short-requires c κs =
     let j = c.before in
     let n = (at j).args.n in
     elim j.if-high-gt0.branch [
-      then-high-gt0 w ↦ let e = w.first-is in let l = ap (λ m. length (decimal m)) e in omega (arith, (at j).requires, j.before.if-high-ge100000000.false, w.if-high-gt0.true, length-behind 8 n (omega (arith, w.if-high-gt0.true)))
-    | else-high-gt0 w ↦ let e = w.first-is in let l = ap (λ m. length (decimal m)) e in omega (arith, (at j).requires, w.if-high-gt0.false)
+      | then-high-gt0 w ↦ let e = w.first-is in let l = ap (λ m. length (decimal m)) e in omega (arith, (at j).requires, j.before.if-high-ge100000000.false, w.if-high-gt0.true, length-behind 8 n (omega (arith, w.if-high-gt0.true)))
+      | else-high-gt0 w ↦ let e = w.first-is in let l = ap (λ m. length (decimal m)) e in omega (arith, (at j).requires, w.if-high-gt0.false)
     ]
 
 mul-put-eight-3 : tie.Need-overflow_mul-high-then-high-gt0-2

@@ -63,8 +63,8 @@ ready j =
     let f = (begin j).ranges.x in
     let read = ap nat_abs (to_z-of_z f) in
     elim j.if-x-lt0.branch [
-      then-x-lt0 w ↦ same a.out.now a.at a.x (begin j).requires f j.if-x-lt0.out j.if-x-lt0.start j.if-x-lt0.n w.out-is w.start-is (w.n-is ∙ w.magnitude-n.ensures ∙ read) (behind-minus a.out.now a.at a.x (begin j).requires f (lt-taken f (sfits_lit tt) w.if-x-lt0.true))
-    | else-x-lt0 w ↦ same a.out.now a.at a.x (begin j).requires f j.if-x-lt0.out j.if-x-lt0.start j.if-x-lt0.n w.out-is w.start-is (w.n-is ∙ read) (without a.out.now a.at a.x (begin j).requires f (lt-left f (sfits_lit tt) w.if-x-lt0.false))
+      | then-x-lt0 w ↦ same a.out.now a.at a.x (begin j).requires f j.if-x-lt0.out j.if-x-lt0.start j.if-x-lt0.n w.out-is w.start-is (w.n-is ∙ w.magnitude-n.ensures ∙ read) (behind-minus a.out.now a.at a.x (begin j).requires f (lt-taken f (sfits_lit tt) w.if-x-lt0.true))
+      | else-x-lt0 w ↦ same a.out.now a.at a.x (begin j).requires f j.if-x-lt0.out j.if-x-lt0.start j.if-x-lt0.n w.out-is w.start-is (w.n-is ∙ read) (without a.out.now a.at a.x (begin j).requires f (lt-left f (sfits_lit tt) w.if-x-lt0.false))
     ]
 
 slice-write-out : tie.Need-bounds-out-at

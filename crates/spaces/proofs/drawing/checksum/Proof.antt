@@ -2,7 +2,6 @@
 use Rattle.std.proofs.Common.{◌-◌, ◌≤◌, rules}
 use Rattle.spaces.proofs.drawing.checksum.Statement.{statement}
 use Rattle.spaces.proofs.drawing.checksum.Tie as tie
-use Rattle.std.proofs.num.wrapping_add_u64.Reads as wrapping-add-u64-reads
 
 abbrev invariant-loop : tie.invariant-loop-k
 invariant-loop numbers from end stop sum₀ k₀ sum k = (0 ≤ k)

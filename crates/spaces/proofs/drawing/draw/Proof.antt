@@ -1,5 +1,5 @@
 -- `spaces::drawing::draw` meets its contract: the numbers keep their length. Assumes nothing.
-use Rattle.std.proofs.Common.{◌≡◌, ◌-◌, ◌≤◌, length, rules}
+use Rattle.std.proofs.Common.{◌≡◌, ◌-◌, length, rules}
 use Rattle.spaces.proofs.drawing.draw.Statement.{statement}
 use Rattle.spaces.proofs.drawing.draw.Tie as tie
 
