@@ -1,4 +1,4 @@
-/* Clochecloak for C. Link libclochecloak.a, which `rt staticlib clochecloak` writes.
+/* Clochecloak for C. Link target/staticlib/libclochecloak.a, which `./archive` writes.
  *
  * There are two models, each with tables of its own. A table of the Cumulus One is CLOCHECLOAK_TABLE numbers; its variables
  * are 0 alpha, 1 beta, 2 xi (aileron), 3 eta (elevator) and 4 zeta (rudder), its coefficients X, Y, Z, l, m, n, in this order.

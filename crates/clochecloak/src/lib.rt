@@ -1,4 +1,6 @@
-// The operations for hosts in C, which hold tables as numbers. A slice is a pointer and a count of numbers.
+// The operations for hosts that hold tables as numbers. The crate clochecloak_c exports each to C, under its name here.
+#![tactic(auto)]
+
 ghost use Rattle.std.specs.Prelude.{◌≡◌, [], ◌∷◌};
 ghost use Rattle.layout.specs.Shape.{cumulus, gtm};
 ghost use Rattle.layout.specs.Reading.{readings, read_number, read_output};
@@ -12,16 +14,14 @@ ghost use Rattle.door.specs.Door.{floats, door_answer};
 
 use door::Answer;
 
-#[unsafe(no_mangle)]
-pub extern "C" fn clochecloak_publish(out: &mut [i64]) -> u64
+pub fn clochecloak_publish(out: &mut [i64]) -> u64
     ensures number { result ≡ publish_number published out.old }
     ensures output { out.new ≡ publish_output published out.old }
 {
     cumulus::publish(out)
 }
 
-#[unsafe(no_mangle)]
-pub extern "C" fn clochecloak_read(
+pub fn clochecloak_read(
     table: &[i64],
     alpha: i64,
     beta: i64,
@@ -37,8 +37,7 @@ pub extern "C" fn clochecloak_read(
     cumulus::read(table, state, out)
 }
 
-#[unsafe(no_mangle)]
-pub extern "C" fn clochecloak_read_many(
+pub fn clochecloak_read_many(
     table: &[i64],
     states: &[i64],
     numbers: &mut [u64],
@@ -51,8 +50,7 @@ pub extern "C" fn clochecloak_read_many(
     cumulus::read_many(table, states, numbers, out)
 }
 
-#[unsafe(no_mangle)]
-pub extern "C" fn clochecloak_read_microradians(
+pub fn clochecloak_read_microradians(
     alpha: i64,
     beta: i64,
     xi: i64,
@@ -66,21 +64,14 @@ pub extern "C" fn clochecloak_read_microradians(
     microradians::read([alpha, beta, xi, eta, zeta], out)
 }
 
-#[unsafe(no_mangle)]
-pub extern "C" fn clochecloak_move(
-    table: &[i64],
-    variable: usize,
-    shift: i64,
-    out: &mut [i64],
-) -> u64
+pub fn clochecloak_move(table: &[i64], variable: usize, shift: i64, out: &mut [i64]) -> u64
     ensures number { result ≡ move_number cumulus table.now variable shift out.old }
     ensures output { out.new ≡ move_output cumulus table.now variable shift out.old }
 {
     cumulus::move_datum(table, variable, shift, out)
 }
 
-#[unsafe(no_mangle)]
-pub extern "C" fn clochecloak_read_floats(
+pub fn clochecloak_read_floats(
     table: &[i64],
     alpha: f64,
     beta: f64,
@@ -95,29 +86,21 @@ pub extern "C" fn clochecloak_read_floats(
 }
 
 // The GTM's longitudinal model: another table, with alpha and eta for its variables.
-#[unsafe(no_mangle)]
-pub extern "C" fn clochecloak_gtm_publish(out: &mut [i64]) -> u64
+pub fn clochecloak_gtm_publish(out: &mut [i64]) -> u64
     ensures number { result ≡ publish_number gtm_published out.old }
     ensures output { out.new ≡ publish_output gtm_published out.old }
 {
     gtm::publish(out)
 }
 
-#[unsafe(no_mangle)]
-pub extern "C" fn clochecloak_gtm_read(table: &[i64], alpha: i64, eta: i64, out: &mut [i64]) -> u64
+pub fn clochecloak_gtm_read(table: &[i64], alpha: i64, eta: i64, out: &mut [i64]) -> u64
     ensures number { result ≡ read_number gtm table.now (readings (alpha ∷ eta ∷ [])) out.old }
     ensures output { out.new ≡ read_output gtm table.now (readings (alpha ∷ eta ∷ [])) out.old }
 {
     gtm::read(table, [alpha, eta], out)
 }
 
-#[unsafe(no_mangle)]
-pub extern "C" fn clochecloak_gtm_move(
-    table: &[i64],
-    variable: usize,
-    shift: i64,
-    out: &mut [i64],
-) -> u64
+pub fn clochecloak_gtm_move(table: &[i64], variable: usize, shift: i64, out: &mut [i64]) -> u64
     ensures number { result ≡ move_number gtm table.now variable shift out.old }
     ensures output { out.new ≡ move_output gtm table.now variable shift out.old }
 {
