@@ -1,4 +1,5 @@
 -- A float in thousandths, rounded up.
+--   one                 what the code takes from the digits before their shift
 --   up-below, up_from   by the parts of its magnitude: below zero, and from zero on
 --   up-at-most          the float is at most k thousandths where this number is at most k
 use mathlib.Core.Path.{◌≡◌, refl, sym, ap, ◌∙◌}
@@ -24,6 +25,10 @@ use Rattle.rounding.specs.Value.{numerator, denominator}
 use Rattle.rounding.proofs.Nearest.{denominator-pos}
 use Rattle.thousandths.specs.Thousandths.{at_most_thousandths}
 use Rattle.thousandths.specs.Steps.{IsParts, thousandths_up}
+
+-- what is taken from n before the shift, and given back after it
+abbrev pub one : ℤ
+one = pos 1
 
 -- ════ by the parts of the magnitude
 abbrev origin : Float

@@ -14,13 +14,9 @@ use Rattle.whole.proofs.Magnitudes.{nat_abs-+, nat_abs--}
 use Rattle.whole.proofs.Machine.{nat_abs-sfits, op-bits, op-back}
 use Rattle.whole.proofs.Down.{down-size}
 use Rattle.thousandths.specs.Steps.{IsParts}
-use Rattle.thousandths.proofs.Up.{up-below, up_from}
+use Rattle.thousandths.proofs.Up.{one, up-below, up_from}
 use Rattle.thousandths.proofs.thousandths_up.Statement.{statement}
 use Rattle.thousandths.proofs.thousandths_up.Tie as tie
-
--- what is taken from n before the shift, and given back after it
-abbrev one : ℤ
-one = pos 1
 
 -- ---- what is shifted
 module _ (c : tie.After-struct_known-1) where
