@@ -15,7 +15,7 @@ use Rattle.layout.specs.Reading.{readings}
 use Rattle.blocks.proofs.group_at.Statement.{statement}
 use Rattle.blocks.proofs.group_at.Tie as tie
 
-module _ (c : tie.After-value-at-arg3) where
+module _ (c : tie.After-value_at-arg-3-1) where
   abbrev start : tie.Start
   start = c.before.before.before
 
@@ -27,45 +27,45 @@ module _ (c : tie.After-value-at-arg3) where
 
   -- the readings, as they are read
   first-is : to_z w64 (of_z w64 first) ≡ first
-  first-is = to_z-of_z (sfits_of {z = first} c.before.value-at-arg2.given)
+  first-is = to_z-of_z {w = w64} (sfits_of {z = first} c.before.value_at-arg-2-1.given)
 
   second_is : to_z w64 (of_z w64 second) ≡ second
-  second_is = to_z-of_z (sfits_of {z = second} c.value-at-arg3.given)
+  second_is = to_z-of_z {w = w64} (sfits_of {z = second} c.value_at-arg-3-1.given)
 
   count-is : start.args.start + start.args.count - start.args.start ≡ start.args.count
   count-is = omega arith
 
   readable : Readable (take start.args.count (drop start.args.start start.args.table.now)) first second
-  readable = record { few = omega (arith, length-take start.args.count (drop start.args.start start.args.table.now), start.pre.few); light = start.pre.light }
+  readable = record { few = omega (arith, length-take start.args.count (drop start.args.start start.args.table.now), start.requires.few); light = start.requires.light }
 
-add-end : tie.Need-overflow-add-end
+add-end : tie.Need-overflow_add-end
 add-end c = search rules
 
-mul-value-at : tie.Need-overflow-mul-value-at
+mul-value-at : tie.Need-offset_bounds-table-start
 mul-value-at c = search rules
 
-sub-value-at : tie.Need-overflow-sub-value-at
+sub-value-at : tie.Need-slice_bounds-value_at-count
 sub-value-at c = search rules
 
-part-value-at-start : tie.Need-slice-bounds-value-at-start
+part-value-at-start : tie.Need-slice_bounds-value_at-start
 part-value-at-start c = search rules
 
-part-value-at-end : tie.Need-slice-bounds-value-at-end
+part-value-at-end : tie.Need-slice_bounds-value_at-end
 part-value-at-end c = search rules
 
-mul-value-at-2 : tie.Need-overflow-mul-value-at-2
+mul-value-at-2 : tie.Need-offset_bounds-state-u
 mul-value-at-2 c = search rules
 
-shared-slice-copy-out-value-at : tie.Need-shared-slice-copy-out-value-at
+shared-slice-copy-out-value-at : tie.Need-bounds-state-u
 shared-slice-copy-out-value-at c = search rules
 
-mul-value-at-3 : tie.Need-overflow-mul-value-at-3
+mul-value-at-3 : tie.Need-offset_bounds-state-v
 mul-value-at-3 c = search rules
 
-shared-slice-copy-out-value-at-2 : tie.Need-shared-slice-copy-out-value-at-2
+shared-slice-copy-out-value-at-2 : tie.Need-bounds-state-v
 shared-slice-copy-out-value-at-2 c = search rules
 
-value-at-requires : tie.Need-value-at-requires
+value-at-requires : tie.Need-value_at-requires
 value-at-requires c κs =
     let a = (start c).args in
     subst₃ (λ n x y. Readable (take n (drop a.start a.table.now)) x y) (sym (count-is c)) (sym (first-is c)) (sym (second_is c)) (readable c)
@@ -74,21 +74,10 @@ returns : tie.Need-returns
 returns c =
     let d = c.before in
     let a = (start d).args in
-    to_z-of_z (sfits_of {z = c.value-at.result} c.value-at.type-inv) ∙ c.value-at.ensures
+    to_z-of_z {w = w64} (sfits_of {z = c.value_at.result} c.value_at.type_inv) ∙ c.value_at.ensures
     ∙ λ i. value (take (count-is d i) (drop a.start a.table.now)) (first-is d i) (second_is d i)
 
-pub group-at-spec : {M : Type 1} → statement M
-group-at-spec =
+pub group_at_spec : {M : Type 1} → statement M
+group_at_spec =
     tie.close
-    (tie.spec
-    add-end
-    mul-value-at
-    sub-value-at
-    part-value-at-start
-    part-value-at-end
-    mul-value-at-2
-    shared-slice-copy-out-value-at
-    mul-value-at-3
-    shared-slice-copy-out-value-at-2
-    value-at-requires
-    returns)
+    (tie.spec add-end mul-value-at sub-value-at part-value-at-start part-value-at-end mul-value-at-2 shared-slice-copy-out-value-at mul-value-at-3 shared-slice-copy-out-value-at-2 value-at-requires returns)
