@@ -13,14 +13,12 @@ use borrow.Author.Rules.{rules}
 use Rattle.whole.proofs.Identity.{quote, quote-pos, ring1}
 use Rattle.whole.proofs.Linear.{zarith, quote-nat_abs}
 use Rattle.whole.proofs.Machine.{lt-taken, lt-left, sfits-bound}
+use Rattle.whole.proofs.Turned.{turned-fits}
 use Rattle.whole.proofs.magnitude.Statement.{statement}
 use Rattle.whole.proofs.magnitude.Tie as tie
 
 more-fits : (x : ℤ) → SFits w64 x → x <ℤ pos 0 → SFits w64 (x +ℤ pos 1)
 more-fits x = ring1 x (λ ρ e. simp (quote, quote-pos ρ, e) (omega zarith))
-
-turned-fits : (x : ℤ) → SFits w64 x → x <ℤ pos 0 → SFits w64 (pos 0 -ℤ (x +ℤ pos 1))
-turned-fits x = ring1 x (λ ρ e. simp (quote, quote-pos ρ, e) (omega zarith))
 
 turned-non_neg : (x : ℤ) → x <ℤ pos 0 → T (non_neg (pos 0 -ℤ (x +ℤ pos 1)))
 turned-non_neg x = ring1 x (λ ρ e. simp (quote, quote-pos ρ, e) (omega zarith))
