@@ -1,125 +1,131 @@
 // Answers each line of a script on standard input with a line on standard output.
+#![tactic(auto)]
+
 use layout::cumulus_one::TABLE;
-use libc::{STDIN_FILENO, STDOUT_FILENO};
 use scripts::LONGEST;
 use spaces::rooms::{ALL, SPACE};
+use std::io;
+use std::io::{ErrorKind, Read, Write};
 use streams::{End, Outcome};
 use texts::{LINE, OUT, least};
 
-// How many bytes of the line are held, where the answers end, and whether all that had to be written could be.
-#[derive(Drop)]
+// How many bytes of the line are held, and where the answers end, where all that had to be written could be.
+#[derive(Clone, Copy)]
 struct Told {
     held: usize,
     at: usize,
-    written: bool,
 }
 
-fn write_out(out: &[u8], at: usize) -> bool {
+fn write_out<W: Write>(out: &[u8], at: usize, to: &mut W) -> io::Result<()> {
     let from = 0;
     let end = least(at, out.len());
-    let wrote = streams::write(STDOUT_FILENO, &out[from..end]);
-    let Outcome::Moved(_) = wrote else {
-        return false;
-    };
-    true
+    match streams::write(to, &out[from..end]) {
+        Outcome::Moved(_) => Ok(()),
+        Outcome::Again => unreachable!(),
+        Outcome::Failed(error) => Err(error),
+    }
 }
 
 // Writes out what is there, where the longest answer has no room behind it.
-fn with_room(out: &[u8; OUT], told: Told) -> Told {
+fn with_room<W: Write>(out: &[u8; OUT], told: Told, to: &mut W) -> io::Result<Told> {
     if told.at <= OUT - LONGEST {
-        return told;
+        return Ok(told);
     }
-    Told {
+    write_out(out, told.at, to)?;
+    Ok(Told {
         held: told.held,
         at: 0,
-        written: write_out(out, told.at),
-    }
+    })
 }
 
-fn take_byte(
+fn take_byte<W: Write>(
     byte: u8,
     line: &mut [u8; LINE],
     told: Told,
     spaces: &mut [i64; ALL],
     out: &mut [u8; OUT],
-) -> Told {
+    to: &mut W,
+) -> io::Result<Told> {
     if byte != b'\n' {
-        return Told {
+        return Ok(Told {
             held: texts::hold(byte, line, told.held),
             at: told.at,
-            written: true,
-        };
+        });
     }
-    let free = with_room(out, told);
-    if !free.written {
-        return free;
-    }
-    Told {
+    let free = with_room(out, told, to)?;
+    Ok(Told {
         held: 0,
         at: scripts::answer(line, told.held, spaces, out, free.at),
-        written: true,
-    }
+    })
 }
 
-fn take_piece(
+fn take_piece<W: Write>(
     piece: &[u8],
     line: &mut [u8; LINE],
     held: usize,
     spaces: &mut [i64; ALL],
     out: &mut [u8; OUT],
-) -> Told {
-    let mut told = Told {
-        held: held,
-        at: 0,
-        written: true,
-    };
+    to: &mut W,
+) -> io::Result<Told> {
+    let mut told = Told { held: held, at: 0 };
     let mut k: usize = 0;
     while k < piece.len() {
         let byte = piece[k];
-        told = take_byte(byte, line, told, spaces, out);
-        if !told.written {
-            return told;
-        }
+        told = take_byte(byte, line, told, spaces, out, to)?;
         k += 1;
     }
-    told
+    Ok(told)
 }
 
 // Answers a last line that no newline ends.
-fn finish(line: &[u8; LINE], held: usize, spaces: &mut [i64; ALL], out: &mut [u8; OUT]) -> End {
+fn finish<W: Write>(
+    line: &[u8; LINE],
+    held: usize,
+    spaces: &mut [i64; ALL],
+    out: &mut [u8; OUT],
+    to: &mut W,
+) -> End {
     if held > 0 {
         let end = scripts::answer(line, held, spaces, out, 0);
-        if !write_out(out, end) {
-            return End::Unwritten;
+        if let Err(error) = write_out(out, end, to) {
+            return End::Unwritten(error);
         }
     }
     End::Done
 }
 
 // Up to the end of the input. A proved loop has to end, so it counts its turns down from a number that no run uses up.
-fn run(line: &mut [u8; LINE], spaces: &mut [i64; ALL], buf: &mut [u8], out: &mut [u8; OUT]) -> End {
+fn run<R: Read, W: Write>(
+    line: &mut [u8; LINE],
+    spaces: &mut [i64; ALL],
+    buf: &mut [u8],
+    out: &mut [u8; OUT],
+    input: &mut R,
+    to: &mut W,
+) -> End {
     let mut held: usize = 0;
     let mut turns = u64::MAX;
     while turns > 0 {
         turns -= 1;
         let from = 0;
-        let got = streams::read(STDIN_FILENO, buf);
-        let Outcome::Moved(n) = got else {
-            return End::Unread;
+        let n = match streams::read(input, buf) {
+            Outcome::Moved(n) => n,
+            Outcome::Again => unreachable!(),
+            Outcome::Failed(error) => return End::Unread(error),
         };
         if n == 0 {
-            return finish(line, held, spaces, out);
+            return finish(line, held, spaces, out, to);
         }
-        let told = take_piece(&buf[from..n], line, held, spaces, out);
-        if !told.written {
-            return End::Unwritten;
-        }
-        if !write_out(out, told.at) {
-            return End::Unwritten;
+        let told = match take_piece(&buf[from..n], line, held, spaces, out, to) {
+            Ok(told) => told,
+            Err(error) => return End::Unwritten(error),
+        };
+        if let Err(error) = write_out(out, told.at, to) {
+            return End::Unwritten(error);
         }
         held = told.held;
     }
-    End::Unread
+    End::Unread(io::Error::from(ErrorKind::TimedOut))
 }
 
 // Each space starts with the length of a table.
@@ -133,13 +139,21 @@ fn opened() -> [i64; ALL] {
     spaces
 }
 
-fn main() {
+fn main(rt: HostRuntime) {
     let mut spaces = opened();
     let mut line = [0u8; LINE];
-    let mut buf = io::large_buffer();
+    let mut buf = [0u8; 65536];
     let mut out = [0u8; OUT];
-    let end = run(&mut line, &mut spaces, &mut buf, &mut out);
+    let end = run(
+        &mut line,
+        &mut spaces,
+        &mut buf,
+        &mut out,
+        &mut rt.stdin(),
+        &mut rt.stdout(),
+    );
     streams::tell(
+        &mut rt.stderr(),
         end,
         b"desk: the script cannot be read",
         b"desk: the answers cannot be written",

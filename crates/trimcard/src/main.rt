@@ -1,24 +1,33 @@
 // Answers each line of five readings on standard input with the number given back and the six coefficients of the published table.
-ghost use Rattle.std.specs.Prelude.{◌≡◌, true, ◌≤◌, length};
+#![tactic(auto)]
+
+ghost use Rattle.std.specs.Prelude.{◌≡◌, OnOk, ◌≤◌, length};
 ghost use Rattle.answers.specs.Answers.{longest};
 ghost use Rattle.answers.specs.Reading.{readings_after};
 
 use answers::Reading;
 use layout::cumulus_one::TABLE;
-use libc::{STDIN_FILENO, STDOUT_FILENO};
+use std::io;
+use std::io::{ErrorKind, Read, Write};
 use streams::{End, Outcome};
 
 // The reading after a piece, where all of its answers were written.
 #[derive(Drop)]
 struct Answered {
     reading: Reading,
-    written: bool,
+    written: io::Result<()>,
 }
 
 // Answers a piece of the input, with a write each time the output is full; stops where a write fails.
-fn answer_piece(table: &[i64], reading: Reading, piece: &[u8], out: &mut [u8]) -> Answered
+fn answer_piece<W: Write>(
+    table: &[i64],
+    reading: Reading,
+    piece: &[u8],
+    out: &mut [u8],
+    to: &mut W,
+) -> Answered
     requires { longest ≤ length out.old }
-    ensures { result.written ≡ true → result.reading ≡ readings_after reading piece.now }
+    ensures { OnOk result.written (result.reading ≡ readings_after reading piece.now) }
 {
     let mut current = reading;
     let mut at: usize = 0;
@@ -26,37 +35,46 @@ fn answer_piece(table: &[i64], reading: Reading, piece: &[u8], out: &mut [u8]) -
         let fed = answers::feed(table, current, &piece[at..], out);
         let from = 0;
         let put = fed.put;
-        let wrote = streams::write(STDOUT_FILENO, &out[from..put]);
-        let Outcome::Moved(_) = wrote else {
-            return Answered {
-                reading: current,
-                written: false,
-            };
-        };
+        match streams::write(to, &out[from..put]) {
+            Outcome::Moved(_) => {}
+            Outcome::Again => unreachable!(),
+            Outcome::Failed(error) => {
+                return Answered {
+                    reading: current,
+                    written: Err(error),
+                };
+            }
+        }
         current = fed.reading;
         at += fed.taken;
     }
     Answered {
         reading: current,
-        written: true,
+        written: Ok(()),
     }
 }
 
 // Answers a last line that no newline ends.
-fn finish(table: &[i64], reading: Reading, out: &mut [u8]) -> End
+fn finish<W: Write>(table: &[i64], reading: Reading, out: &mut [u8], to: &mut W) -> End
     requires { longest ≤ length out.old }
 {
     let from = 0;
     let put = answers::finish(table, reading, out);
-    let wrote = streams::write(STDOUT_FILENO, &out[from..put]);
-    let Outcome::Moved(_) = wrote else {
-        return End::Unwritten;
-    };
-    End::Done
+    match streams::write(to, &out[from..put]) {
+        Outcome::Moved(_) => End::Done,
+        Outcome::Again => unreachable!(),
+        Outcome::Failed(error) => End::Unwritten(error),
+    }
 }
 
 // Up to the end of the input. A proved loop has to end, so it counts its turns down from a number that no run uses up.
-fn run(table: &[i64], buf: &mut [u8], out: &mut [u8]) -> End
+fn run<R: Read, W: Write>(
+    table: &[i64],
+    buf: &mut [u8],
+    out: &mut [u8],
+    input: &mut R,
+    to: &mut W,
+) -> End
     requires { longest ≤ length out.old }
 {
     let mut reading = Reading::fresh();
@@ -64,29 +82,37 @@ fn run(table: &[i64], buf: &mut [u8], out: &mut [u8]) -> End
     while turns > 0 {
         turns -= 1;
         let from = 0;
-        let got = streams::read(STDIN_FILENO, buf);
-        let Outcome::Moved(n) = got else {
-            return End::Unread;
+        let n = match streams::read(input, buf) {
+            Outcome::Moved(n) => n,
+            Outcome::Again => unreachable!(),
+            Outcome::Failed(error) => return End::Unread(error),
         };
         if n == 0 {
-            return finish(table, reading, out);
+            return finish(table, reading, out, to);
         }
-        let answered = answer_piece(table, reading, &buf[from..n], out);
-        if !answered.written {
-            return End::Unwritten;
+        let answered = answer_piece(table, reading, &buf[from..n], out, to);
+        if let Err(error) = answered.written {
+            return End::Unwritten(error);
         }
         reading = answered.reading;
     }
-    End::Unread
+    End::Unread(io::Error::from(ErrorKind::TimedOut))
 }
 
-fn main() {
+fn main(rt: HostRuntime) {
     let mut table = [0i64; TABLE];
     cumulus::publish(&mut table);
-    let mut buf = io::large_buffer();
-    let mut out = io::large_buffer();
-    let end = run(&table, &mut buf, &mut out);
+    let mut buf = [0u8; 65536];
+    let mut out = [0u8; 65536];
+    let end = run(
+        &table,
+        &mut buf,
+        &mut out,
+        &mut rt.stdin(),
+        &mut rt.stdout(),
+    );
     streams::tell(
+        &mut rt.stderr(),
         end,
         b"trimcard: the input cannot be read",
         b"trimcard: the answers cannot be written",
