@@ -24,21 +24,21 @@ pub const LONGEST: usize = LONGEST_NUMBER + LONGEST_VALUES + 1;
 const MALFORMED: u64 = 31;
 
 // What is known of the input from its bytes so far: the line that has not ended, and whether it has a byte.
-#[derive(Drop)]
+#[derive(Clone, Copy)]
 pub struct Reading {
     pub line: State,
     pub begun: bool,
 }
 
 // The line after some bytes of the input that are no newline, and the place behind them.
-#[derive(Drop)]
+#[derive(Clone, Copy)]
 pub struct Part {
     pub line: State,
     pub end: usize,
 }
 
 // The reading after the first `taken` bytes of a piece, and how many bytes of the output hold their answers.
-#[derive(Drop)]
+#[derive(Clone, Copy)]
 pub struct Fed {
     pub reading: Reading,
     pub taken: usize,

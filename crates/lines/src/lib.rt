@@ -5,7 +5,7 @@ ghost use Rattle.std.specs.Prelude.{◌≡◌, ◌≤◌};
 ghost use Rattle.lines.specs.State.{start, number_of, refused, ended, minus, digit, stepped, finished};
 
 // What a line says: the readings in milliradians, or that it is no line of five numbers.
-#[derive(Drop)]
+#[derive(Clone, Copy)]
 pub enum Line {
     Readings {
         alpha: i64,
@@ -26,7 +26,7 @@ const ONE_DIGIT: u64 = 10 * NO_DIGIT;
 const FOUR_DIGITS: u64 = 10_000 * NO_DIGIT;
 
 // What is known of a line from the bytes so far.
-#[derive(Drop)]
+#[derive(Clone, Copy)]
 pub struct State {
     // How many words have ended; five where no bytes that follow make it a line of five numbers.
     pub words: u64,

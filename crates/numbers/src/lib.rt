@@ -20,7 +20,7 @@ const UNSAID: Number = Number {
 };
 
 // What a word is read as.
-#[derive(Drop)]
+#[derive(Clone, Copy)]
 pub enum Kind {
     Natural,
     Signed,
@@ -28,7 +28,7 @@ pub enum Kind {
 }
 
 // The number that a word says, where it says one.
-#[derive(Drop)]
+#[derive(Clone, Copy)]
 struct Number {
     said: bool,
     value: u64,

@@ -7,7 +7,7 @@ ghost use Rattle.words.specs.Words.{words, word_at, same, IsAt};
 ghost use Rattle.words.specs.Steps.{run, First, Passed};
 
 // Where a word stands: from its start up to its end.
-#[derive(Drop)]
+#[derive(Clone, Copy)]
 pub struct Word {
     pub start: usize,
     pub end: usize,
