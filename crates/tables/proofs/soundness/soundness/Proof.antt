@@ -7,7 +7,7 @@ use borrow.Author.Tests.{not-true, not-false}
 use lib.IntN.{ℤ}
 use Rattle.layout.specs.declared.Model.{Model}
 use Rattle.layout.specs.Shape.{Shape, shape}
-use Rattle.layout.specs.Limits.{all_in_range, good}
+use Rattle.layout.specs.Limits.{good}
 use Rattle.layout.specs.Sound.{reach, within_cap, light}
 use Rattle.layout.specs.Reaches.{listed_reaches, reaches_of}
 use Rattle.layout.specs.Refusals.{bad_limits, too_heavy}
@@ -19,7 +19,7 @@ use Rattle.tables.proofs.Taken.{first-nothing, taken, good-taken, range-taken, r
 use Rattle.tables.proofs.soundness.soundness.Statement.{statement}
 use Rattle.tables.proofs.soundness.soundness.Tie as tie
 
-module _ (c : tie.After-of) where
+module _ (c : tie.After-of-limits) where
   abbrev m : Model
   m = c.before.args.model
 
@@ -29,35 +29,35 @@ module _ (c : tie.After-of) where
   abbrev table : List ℤ
   table = c.before.args.table.now
 
-good-is : (c : tie.After-good2) → let d = c.before in c.good2.result ≡ good (S d) (table d)
-good-is c = let d = c.before in c.good2.ensures ∙ good-taken (m d) (table d) d.of.result d.of.ensures
+good-is : (c : tie.After-good) → let d = c.before in c.good.result ≡ good (S d) (table d)
+good-is c = let d = c.before in c.good.ensures ∙ good-taken (m d) (table d) d.of-limits.result d.of-limits.ensures
 
 -- the limits are good
-limits-good : (c : tie.Else1) → let d = c.before.before in good (S d) (table d) ≡ true
-limits-good c = sym (good-is c.before) ∙ not-false _ c.if1.false
+limits-good : (c : tie.Else-not-good) → let d = c.before.before in good (S d) (table d) ≡ true
+limits-good c = sym (good-is c.before) ∙ not-false _ c.if-not-good.false-raw
 
 -- the reaches, as they come back
 reaches-are : (c : tie.After-reaches) → let d = c.before.before.before in c.reaches.result ≡ listed_reaches (reach (S d) (taken (m d) (table d)))
-reaches-are c = let d = c.before.before.before in c.reaches.ensures ∙ reaches-taken (m d) (table d) d.of.result d.of.ensures
+reaches-are c = let d = c.before.before.before in c.reaches.ensures ∙ reaches-taken (m d) (table d) d.of-limits.result d.of-limits.ensures
 
-light-is : (c : tie.After-within-cap) → let d = c.before.before.before.before in c.within_cap.result ≡ light (S d) (table d)
+light-is : (c : tie.After-within_cap) → let d = c.before.before.before.before in c.within_cap.result ≡ light (S d) (table d)
 light-is c =
     let d = c.before.before.before.before in
     c.within_cap.ensures ∙ ap (λ l. within_cap (S d) (table d) (reaches_of l)) (reaches-are c.before) ∙ light-taken (m d) (table d)
 
-of-requires : tie.Need-of-requires
+of-requires : tie.Need-of-limits-requires
 of-requires c κs = omega (arith, c.requires, some-table c.args.model)
 
 good-requires : tie.Need-good-requires
 good-requires c κs = tt
 
-returns : tie.Need-returns
-returns c = sym (first-hit bad_limits _ (sym (good-is c.before) ∙ not-true _ c.if1.true))
+returns : tie.Need-returns-then-not-good
+returns c = sym (first-hit bad_limits _ (sym (good-is c.before) ∙ not-true _ c.if-not-good.true-raw))
 
 reaches-requires : tie.Need-reaches-requires
-reaches-requires c κs = let d = c.before.before in range-taken (m d) (table d) d.of.result d.of.ensures ∙ (good-facts (S d) (table d) (limits-good c)).range
+reaches-requires c κs = let d = c.before.before in range-taken (m d) (table d) d.of-limits.result d.of-limits.ensures ∙ (good-facts (S d) (table d) (limits-good c)).range
 
-within-cap-requires : tie.Need-within-cap-requires
+within-cap-requires : tie.Need-within_cap-requires
 within-cap-requires c κs =
     let d = c.before.before.before in
     record {
@@ -65,15 +65,15 @@ within-cap-requires c κs =
       one = λ k h. rw (reaches-are c) (listed-one (reach (S d) (taken (m d) (table d))) (reach-one (S d) (taken (m d) (table d))) k h);
     }
 
-returns-2 : tie.Need-returns-2
+returns-2 : tie.Need-returns-then-not-within_cap
 returns-2 c =
-    sym (first-skip bad_limits _ (limits-good c.before.before.before) ∙ first-hit too_heavy [] (sym (light-is c.before) ∙ not-true _ c.if2.true))
+    sym (first-skip bad_limits _ (limits-good c.before.before.before) ∙ first-hit too_heavy [] (sym (light-is c.before) ∙ not-true _ c.if-not-within_cap.true-raw))
 
-returns-3 : tie.Need-returns-3
+returns-3 : tie.Need-returns
 returns-3 c =
-    sym (first-skip bad_limits _ (limits-good c.before.before.before) ∙ first-skip too_heavy [] (sym (light-is c.before) ∙ not-false _ c.if2.false) ∙ first-nothing)
+    sym (first-skip bad_limits _ (limits-good c.before.before.before) ∙ first-skip too_heavy [] (sym (light-is c.before) ∙ not-false _ c.if-not-within_cap.false-raw) ∙ first-nothing)
 
-pub soundness-spec : {M : Type 1} → statement M
-soundness-spec =
+pub soundness_spec : {M : Type 1} → statement M
+soundness_spec =
     tie.close
     (tie.spec of-requires good-requires returns reaches-requires within-cap-requires returns-2 returns-3)
