@@ -1,5 +1,6 @@
 // Answering lines of readings: for each line the number given back and the six coefficients of a table, in decimal.
 #![tactic(auto)]
+
 ghost use Rattle.std.specs.Prelude.{◌≡◌, ◌+◌, ◌<◌, ◌≤◌, length};
 ghost use Rattle.printing.specs.Spell.{written};
 ghost use Rattle.answers.specs.Answers.{spaced, numbered, line_answer, longest_values, longest};

@@ -1,5 +1,6 @@
 // The operations of the library on tables in spaces: whether there are such spaces, and which one is asked for.
 #![tactic(auto)]
+
 use commands::Operation;
 use readings::{read, read_floats, read_microradians};
 use spaces::reasons::no_space;

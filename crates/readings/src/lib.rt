@@ -2,6 +2,7 @@
 // with floats. The bytes of an answer are compared with those that the second program works out; proved is that everything stays within
 // its room.
 #![tactic(auto)]
+
 use commands::State;
 use layout::cumulus_one::VARIABLES;
 use lending::{MARGIN, fresh, put_read};

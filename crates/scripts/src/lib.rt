@@ -1,6 +1,7 @@
 // What a line of a script does with the spaces. The bytes of an answer are compared with those that the second program works out;
 // proved are the command of a line, and that everything stays within its room.
 #![tactic(auto)]
+
 mod uses;
 
 ghost use Rattle.std.specs.Prelude.{◌≤◌};

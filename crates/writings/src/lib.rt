@@ -1,6 +1,7 @@
 // The operations of the library that write into a space. Each is lent a room of its own, and the space changes only with a 0. The bytes
 // of an answer are compared with those that the second program works out; proved is that everything stays within its room.
 #![tactic(auto)]
+
 use layout::Model;
 use lending::{MARGIN, fresh, fresh_numbers, settle, settle_many};
 use spaces::reasons::no_room;
