@@ -13,5 +13,5 @@ start-requires c κs = search rules
 returns : tie.Need-returns
 returns c = ap (λ (s : State). record { line = s; begun = false }) c.start.ensures
 
-pub fresh-spec : {M : Type 1} → statement M
-fresh-spec = tie.close (tie.spec start-requires returns)
+pub fresh_spec : {M : Type 1} → statement M
+fresh_spec = tie.close (tie.spec start-requires returns)
