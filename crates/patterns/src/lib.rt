@@ -1,4 +1,6 @@
 // Floats told by their bit patterns: the readings of a read with floats, and its answer.
+#![tactic(auto)]
+
 use door::Answer;
 use layout::cumulus_one::VARIABLES;
 use texts::{OUT, put_bits, put_natural};

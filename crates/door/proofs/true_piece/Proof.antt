@@ -8,25 +8,25 @@ use Rattle.thousandths.specs.Thousandths.{at_most_thousandths}
 use Rattle.door.proofs.true_piece.Statement.{statement}
 use Rattle.door.proofs.true_piece.Tie as tie
 
-fine-cut-requires : tie.Need-fine-cut-requires
+fine-cut-requires : tie.Need-fine_cut-requires
 fine-cut-requires c κs = tt
 
-at-most-requires : tie.Need-at-most-requires
+at-most-requires : tie.Need-at_most-requires
 at-most-requires c κs = c.before.requires.1
 
 -- what the comparison says
-test-is : (c : tie.After-at-most) → let a = c.before.before.args in c.at_most.result ≡ at_most_thousandths a.alpha (fine_cut cumulus a.limits.numbers)
+test-is : (c : tie.After-at_most) → let a = c.before.before.args in c.at_most.result ≡ at_most_thousandths a.alpha (fine_cut cumulus a.limits.numbers)
 test-is c =
     let f = c.before in
     let a = f.before.args in
     c.at_most.ensures
-    ∙ ap (at_most_thousandths a.alpha) (held f.fine-cut.result f.fine-cut.type-inv (f.fine-cut.ensures ∙ ap (λ m. fine_cut (shape m) a.limits.numbers) f.before.requires.0))
+    ∙ ap (at_most_thousandths a.alpha) (held f.fine_cut.result f.fine_cut.type_inv (f.fine_cut.ensures ∙ ap (λ m. fine_cut (shape m) a.limits.numbers) f.before.requires.0))
 
-returns : tie.Need-returns
-returns c = ap (λ b. cond b 0 1) (sym c.if1.true ∙ test-is c.before)
+returns : tie.Need-returns-then-at_most
+returns c = ap (λ b. cond b 0 1) (sym c.if-at_most.true ∙ test-is c.before)
 
-returns-2 : tie.Need-returns-2
-returns-2 c = ap (λ b. cond b 0 1) (sym c.if1.false ∙ test-is c.before)
+returns-2 : tie.Need-returns
+returns-2 c = ap (λ b. cond b 0 1) (sym c.if-at_most.false ∙ test-is c.before)
 
-pub true-piece-spec : {M : Type 1} → statement M
-true-piece-spec = tie.close (tie.spec fine-cut-requires at-most-requires returns returns-2)
+pub true_piece_spec : {M : Type 1} → statement M
+true_piece_spec = tie.close (tie.spec fine-cut-requires at-most-requires returns returns-2)
