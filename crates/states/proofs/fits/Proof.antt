@@ -24,14 +24,14 @@ by-quotient m e n h =
     let none : m % e ≡ 0 = omega (arith, N.div-add-mod m e, ap (λ q. e * q) quotient, product) in
     &&-both (eq-eqb _ _ none) (eq-eqb _ _ quotient))
 
-rem-result : tie.Need-nonzero-rem-result
+rem-result : tie.Need-nonzero_rem-result
 rem-result c = search rules
 
-div-result : tie.Need-nonzero-div-result
+div-result : tie.Need-nonzero_div-result
 div-result c = search rules
 
 returns : tie.Need-returns
 returns c = by-quotient c.args.count c.args.each c.args.n c.requires
 
-pub fits-spec : {M : Type 1} → statement M
-fits-spec = tie.close (tie.spec rem-result div-result returns)
+pub fits_spec : {M : Type 1} → statement M
+fits_spec = tie.close (tie.spec rem-result div-result returns)

@@ -14,10 +14,10 @@ use Rattle.states.proofs.read_cleared.Tie as tie
 clear-requires : tie.Need-clear-requires
 clear-requires c κs = search rules
 
-cleared-is : (c : tie.After-clear) → c.clear.new.0 ≡ zeros (shape c.before.before.args.model)
+cleared-is : (c : tie.After-clear) → c.clear.new.out ≡ zeros (shape c.before.before.args.model)
 cleared-is c = c.clear.ensures ∙ ap (λ n. listed n (λ b. pos 0)) c.before.before.requires.room
 
-read-sound-requires : tie.Need-read-sound-requires
+read-sound-requires : tie.Need-read_sound-requires
 read-sound-requires c κs =
     let k = c.before.before in
     let a = k.before.before in
@@ -28,7 +28,7 @@ read-sound-requires c κs =
       weights = a.requires.weights;
     }
 
-same_length : tie.Need-same-length
+same_length : tie.Need-shape_of-out
 same_length c = search rules
 
 returns : tie.Need-returns
@@ -38,7 +38,7 @@ returns c =
     let a = k.before.before in
     let S = shape a.args.model in
     let x = readings a.args.state in
-    (r.read-sound.ensures.0 ∙ ap (read_number S a.args.table.now x) (cleared-is k), r.read-sound.ensures.1 ∙ ap (read_output S a.args.table.now x) (cleared-is k))
+    (r.read_sound.ensures.0 ∙ ap (read_number S a.args.table.now x) (cleared-is k), r.read_sound.ensures.1 ∙ ap (read_output S a.args.table.now x) (cleared-is k))
 
-pub read-cleared-spec : {M : Type 1} → statement M
-read-cleared-spec = tie.close (tie.spec clear-requires read-sound-requires same_length returns)
+pub read_cleared_spec : {M : Type 1} → statement M
+read_cleared_spec = tie.close (tie.spec clear-requires read-sound-requires same_length returns)

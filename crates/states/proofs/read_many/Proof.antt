@@ -47,51 +47,51 @@ module _ (a : tie.Start) where
   refused r e h = let k = many-kept S t states numbers out e h in (sym e, (sym k.0, sym k.1))
 
 -- ---- what is known past each test
-abbrev before-1 : tie.Else1 → tie.Start
+abbrev before-1 : tie.Else-table → tie.Start
 before-1 c = c.before.before.before
 
-abbrev before-2 : tie.Else2 → tie.Start
+abbrev before-2 : tie.Else-not-fits → tie.Start
 before-2 c = before-1 c.before.before.before
 
-abbrev before-3 : tie.Else3 → tie.Start
+abbrev before-3 : tie.Else-not-fits-2 → tie.Start
 before-3 c = before-2 c.before.before.before
 
-abbrev before-4 : tie.Else4 → tie.Start
+abbrev before-4 : tie.Else-unsound-ne-DONE → tie.Start
 before-4 c = before-3 c.before.before
 
-table-whole : (c : tie.Else1) → let a = before-1 c in length (t a) ≡ table_length (S a)
-table-whole c = c.if1.false ∙ c.before.table.ensures
+table-whole : (c : tie.Else-table) → let a = before-1 c in length (t a) ≡ table_length (S a)
+table-whole c = c.if-table.false ∙ c.before.table.ensures
 
-given_is : (c : tie.After-fits2) → let a = before-1 c.before.before in c.fits2.result ≡ eqb (length (states a)) ((S a).variables * n a)
-given_is c = let a = before-1 c.before.before in c.fits2.ensures ∙ ap (λ v. eqb (length (states a)) (v * n a)) c.before.variables.ensures
+given_is : (c : tie.After-fits) → let a = before-1 c.before.before in c.fits.result ≡ eqb (length (states a)) ((S a).variables * n a)
+given_is c = let a = before-1 c.before.before in c.fits.ensures ∙ ap (λ v. eqb (length (states a)) (v * n a)) c.before.variables.ensures
 
-room-is : (c : tie.After-fits3) → let a = before-2 c.before.before in c.fits3.result ≡ eqb (length (out a)) ((S a).blocks * n a)
-room-is c = let a = before-2 c.before.before in c.fits3.ensures ∙ ap (λ b. eqb (length (out a)) (b * n a)) c.before.blocks2.ensures
+room-is : (c : tie.After-fits-2) → let a = before-2 c.before.before in c.fits-2.result ≡ eqb (length (out a)) ((S a).blocks * n a)
+room-is c = let a = before-2 c.before.before in c.fits-2.ensures ∙ ap (λ b. eqb (length (out a)) (b * n a)) c.before.blocks-2.ensures
 
-given-fits : (c : tie.Else2) → let a = before-2 c in eqb (length (states a)) ((S a).variables * n a) ≡ true
-given-fits c = sym (given_is c.before) ∙ not-false _ c.if2.false
+given-fits : (c : tie.Else-not-fits) → let a = before-2 c in eqb (length (states a)) ((S a).variables * n a) ≡ true
+given-fits c = sym (given_is c.before) ∙ not-false _ c.if-not-fits.false-raw
 
-room_fits : (c : tie.Else3) → let a = before-3 c in eqb (length (out a)) ((S a).blocks * n a) ≡ true
-room_fits c = sym (room-is c.before) ∙ not-false _ c.if3.false
+room_fits : (c : tie.Else-not-fits-2) → let a = before-3 c in eqb (length (out a)) ((S a).blocks * n a) ≡ true
+room_fits c = sym (room-is c.before) ∙ not-false _ c.if-not-fits-2.false-raw
 
 -- the lengths fit: only the table is left
-asked : (c : tie.Else3) → let a = before-3 c in number a ≡ first (unsound (S a) (t a))
+asked : (c : tie.Else-not-fits-2) → let a = before-3 c in number a ≡ first (unsound (S a) (t a))
 asked c =
     let a = before-3 c in
     let k = c.before.before.before in
     many-asked (S a) (t a) (states a) (numbers a) (out a) (table-whole k.before.before.before) (&&-both (given-fits k) (room_fits c))
 
 -- and it is sound
-nothing : (c : tie.Else4) → first (unsound (S (before-4 c)) (t (before-4 c))) ≡ done
-nothing c = sym c.before.soundness.ensures ∙ c.if4.false
+nothing : (c : tie.Else-unsound-ne-DONE) → first (unsound (S (before-4 c)) (t (before-4 c))) ≡ done
+nothing c = sym c.before.soundness-unsound.ensures ∙ c.if-unsound-ne-DONE.false
 
 table-requires : tie.Need-table-requires
 table-requires c κs = search rules
 
-returns : tie.Need-returns
+returns : tie.Need-returns-then-table
 returns c =
     let a = c.before.before.before in
-    refused a _ (many-wrong-table (S a) (t a) (states a) (numbers a) (out a) (λ e. c.if1.true (e ∙ sym c.before.table.ensures))) (omega arith)
+    refused a _ (many-wrong-table (S a) (t a) (states a) (numbers a) (out a) (λ e. c.if-table.true (e ∙ sym c.before.table.ensures))) (omega arith)
 
 variables-requires : tie.Need-variables-requires
 variables-requires c κs = search rules
@@ -99,37 +99,37 @@ variables-requires c κs = search rules
 fits-requires : tie.Need-fits-requires
 fits-requires c κs = omega (arith, c.variables.ensures, (well-formed (before-1 c.before).args.model).has-variable)
 
-returns-2 : tie.Need-returns-2
+returns-2 : tie.Need-returns-then-not-fits
 returns-2 c =
     let e = c.before.before.before in
     let a = before-1 e in
     refused a _
     (many-wrong-lengths (S a) (t a) (states a) (numbers a) (out a) (table-whole e)
-    (ap (λ b. b && eqb (length (out a)) ((S a).blocks * n a)) (sym (given_is c.before) ∙ not-true _ c.if2.true))) (omega arith)
+    (ap (λ b. b && eqb (length (out a)) ((S a).blocks * n a)) (sym (given_is c.before) ∙ not-true _ c.if-not-fits.true-raw))) (omega arith)
 
 blocks-requires : tie.Need-blocks-requires
 blocks-requires c κs = search rules
 
 fits-requires-2 : tie.Need-fits-requires-2
-fits-requires-2 c κs = omega (arith, c.blocks2.ensures, some-blocks (before-2 c.before).args.model)
+fits-requires-2 c κs = omega (arith, c.blocks-2.ensures, some-blocks (before-2 c.before).args.model)
 
-returns-3 : tie.Need-returns-3
+returns-3 : tie.Need-returns-then-not-fits-2
 returns-3 c =
     let e = c.before.before.before in
     let a = before-2 e in
     refused a _
     (many-wrong-lengths (S a) (t a) (states a) (numbers a) (out a) (table-whole e.before.before.before)
-    (ap₂ ◌&&◌ (given-fits e) (sym (room-is c.before) ∙ not-true _ c.if3.true))) (omega arith)
+    (ap₂ ◌&&◌ (given-fits e) (sym (room-is c.before) ∙ not-true _ c.if-not-fits-2.true-raw))) (omega arith)
 
-soundness-requires : tie.Need-soundness-requires
+soundness-requires : tie.Need-soundness-unsound-requires
 soundness-requires c κs = table-whole c.before.before.before.before.before.before
 
-returns-4 : tie.Need-returns-4
+returns-4 : tie.Need-returns-then-unsound-ne-DONE
 returns-4 c =
     let e = c.before.before in
-    refused (before-3 e) _ (asked e ∙ sym c.before.soundness.ensures) (positive c.if4.true)
+    refused (before-3 e) _ (asked e ∙ sym c.before.soundness-unsound.ensures) (positive c.if-unsound-ne-DONE.true)
 
-read-each-requires : tie.Need-read-each-requires
+read-each-requires : tie.Need-read_each-requires
 read-each-requires c κs =
     let e = c.before.before in
     let d = e.before.before in
@@ -138,36 +138,22 @@ read-each-requires c κs =
     let f = sound-facts (S a) (t a) (nothing e) in
     record { whole = table-whole k.before.before.before; given = eqb-true _ _ (given-fits k); room = eqb-true _ _ (room_fits d); limits = f.0; weights = f.1 }
 
-same_length : tie.Need-same-length
+same_length : tie.Need-shape_of-numbers
 same_length c = search rules
 
-same-length-2 : tie.Need-same-length-2
+same-length-2 : tie.Need-shape_of-out
 same-length-2 c = search rules
 
-returns-5 : tie.Need-returns-5
+returns-5 : tie.Need-returns
 returns-5 c =
     let r = c.before.before.before in
     let e = r.before.before.before in
     let a = before-4 e in
     let accepted = asked e.before.before ∙ nothing e in
     let g = many-given (S a) (t a) (states a) (numbers a) (out a) accepted in
-    (sym accepted, (r.read-each.ensures.0 ∙ sym g.0, r.read-each.ensures.1 ∙ sym g.1))
+    (sym accepted, (r.read_each.ensures.0 ∙ sym g.0, r.read_each.ensures.1 ∙ sym g.1))
 
-pub read-many-spec : {M : Type 1} → statement M
-read-many-spec =
+pub read_many_spec : {M : Type 1} → statement M
+read_many_spec =
     tie.close
-    (tie.spec
-    table-requires
-    returns
-    variables-requires
-    fits-requires
-    returns-2
-    blocks-requires
-    fits-requires-2
-    returns-3
-    soundness-requires
-    returns-4
-    read-each-requires
-    same_length
-    same-length-2
-    returns-5)
+    (tie.spec table-requires returns variables-requires fits-requires returns-2 blocks-requires fits-requires-2 returns-3 soundness-requires returns-4 read-each-requires same_length same-length-2 returns-5)

@@ -7,17 +7,17 @@ use lib.ListN.{get_or-eq_default}
 use Rattle.states.proofs.reading_of.Statement.{statement}
 use Rattle.states.proofs.reading_of.Tie as tie
 
-mul-result : tie.Need-overflow-mul-result
+mul-result : tie.Need-offset_bounds-state-variable
 mul-result c = search rules
 
-shared-slice-copy-out-result : tie.Need-shared-slice-copy-out-result
+shared-slice-copy-out-result : tie.Need-bounds-state-variable
 shared-slice-copy-out-result c = search rules
 
-returns : tie.Need-returns
+returns : tie.Need-returns-then-variable-state
 returns c = search rules
 
-returns-2 : tie.Need-returns-2
-returns-2 c = sym (get_or-eq_default c.before.args.state.now (pos 0) (omega (arith, c.if1.false)))
+returns-2 : tie.Need-returns
+returns-2 c = sym (get_or-eq_default c.before.args.state.now (pos 0) (omega (arith, c.if-variable-state.false)))
 
-pub reading-of-spec : {M : Type 1} → statement M
-reading-of-spec = tie.close (tie.spec mul-result shared-slice-copy-out-result returns returns-2)
+pub reading_of_spec : {M : Type 1} → statement M
+reading_of_spec = tie.close (tie.spec mul-result shared-slice-copy-out-result returns returns-2)
