@@ -47,39 +47,39 @@ module _ (c : tie.Start) where
   abbrev room : List ℤ
   room = moved_room m t i s
 
-good-is : (c : tie.After-good2) → let o = c.before in c.good2.result ≡ all_in_range (S o) (limits o)
-good-is c = let o = c.before in c.good2.ensures ∙ moved-good (m o) (t o) (i o) (s o) o.args.moved o.requires.moved o.requires.limits
+good-is : (c : tie.After-good) → let o = c.before in c.good.result ≡ all_in_range (S o) (limits o)
+good-is c = let o = c.before in c.good.ensures ∙ moved-good (m o) (t o) (i o) (s o) o.args.moved o.requires.moved o.requires.limits
 
 -- the moved limits are in range
-module _ (c : tie.Else1) where
+module _ (c : tie.Else-not-good) where
   abbrev from : tie.Start
   from = c.before.before
 
   limits-in-range : all_in_range (S from) (limits from) ≡ true
-  limits-in-range = sym (good-is c.before) ∙ not-false _ c.if1.false
+  limits-in-range = sym (good-is c.before) ∙ not-false _ c.if-not-good.false-raw
 
 -- the reaches, as they come back
 reaches-are : (c : tie.After-reaches) → let o = from c.before in c.reaches.result ≡ listed_reaches (reach (S o) (room o))
-reaches-are c = let o = from c.before in c.reaches.ensures ∙ moved-reaches (m o) (t o) (i o) (s o) o.args.moved o.pre.moved
+reaches-are c = let o = from c.before in c.reaches.ensures ∙ moved-reaches (m o) (t o) (i o) (s o) o.args.moved o.requires.moved
 
 -- the size of the shift
 size_is : (c : tie.After-magnitude) → let o = from c.before.before in c.magnitude.result ≡ nat_abs (s o)
-size_is c = let o = from c.before.before in c.magnitude.ensures ∙ ap nat_abs (to_z-of_z o.fits.shift)
+size_is c = let o = from c.before.before in c.magnitude.ensures ∙ ap nat_abs (to_z-of_z o.ranges.shift)
 
 -- and the reaches as they are made longer
-module _ (c : tie.After-longer) where
-  abbrev inside : tie.Else1
+module _ (c : tie.After-longer-reaches) where
+  abbrev inside : tie.Else-not-good
   inside = c.before.before.before
 
   abbrev origin : tie.Start
   origin = from inside
 
-  longer-is : c.longer.result ≡ listed_reaches (longer_reach (m origin) (t origin) (i origin) (s origin))
+  longer-is : c.longer-reaches.result ≡ listed_reaches (longer_reach (m origin) (t origin) (i origin) (s origin))
   longer-is =
-      c.longer.ensures ∙ ap₂ (λ l n. listed reaches_room (longer_at l (i origin) n)) (reaches-are c.before.before) (size_is c.before)
+      c.longer-reaches.ensures ∙ ap₂ (λ l n. listed reaches_room (longer_at l (i origin) n)) (reaches-are c.before.before) (size_is c.before)
       ∙ listed-longer (reach (S origin) (room origin)) (i origin) (nat_abs (s origin))
 
-light-is : (c : tie.After-within-cap) → let o = origin c.before in c.within_cap.result ≡ move_light (S o) (i o) (s o) (t o)
+light-is : (c : tie.After-within_cap) → let o = origin c.before in c.within_cap.result ≡ move_light (S o) (i o) (s o) (t o)
 light-is c =
     let o = origin c.before in
     c.within_cap.ensures ∙ ap (λ l. within_cap (S o) (t o) (reaches_of l)) (longer-is c.before) ∙ move-light (m o) (t o) (i o) (s o)
@@ -87,44 +87,36 @@ light-is c =
 good-requires : tie.Need-good-requires
 good-requires c κs = tt
 
-returns : tie.Need-returns
-returns c = sym (first-hit limit_past _ (sym (good-is c.before) ∙ not-true _ c.if1.true))
+returns : tie.Need-returns-then-not-good
+returns c = sym (first-hit limit_past _ (sym (good-is c.before) ∙ not-true _ c.if-not-good.true-raw))
 
 reaches-requires : tie.Need-reaches-requires
-reaches-requires c κs = let o = from c in moved-range (m o) (t o) (i o) (s o) o.args.moved o.pre.moved ∙ limits-in-range c
+reaches-requires c κs = let o = from c in moved-range (m o) (t o) (i o) (s o) o.args.moved o.requires.moved ∙ limits-in-range c
 
 magnitude-requires : tie.Need-magnitude-requires
 magnitude-requires c κs = tt
 
-longer-requires : tie.Need-longer-requires
+longer-requires : tie.Need-longer-reaches-requires
 longer-requires c κs =
     let d = c.before in
     let o = from d.before in
     subst (λ n. Lengthened d.reaches.result (i o) n) (sym (size_is c))
-    (rw (reaches-are d) (lengthened (m o) (t o) (i o) (s o) o.pre.variable o.pre.limits (limits-in-range d.before)))
+    (rw (reaches-are d) (lengthened (m o) (t o) (i o) (s o) o.requires.variable o.requires.limits (limits-in-range d.before)))
 
-within-cap-requires : tie.Need-within-cap-requires
+within-cap-requires : tie.Need-within_cap-requires
 within-cap-requires c κs =
     let o = origin c in
-    record { whole = o.pre.whole; one = λ k h. rw (longer-is c) (listed-one (longer_reach (m o) (t o) (i o) (s o)) (move-one (m o) (t o) (i o) (s o)) k h) }
+    record { whole = o.requires.whole; one = λ k h. rw (longer-is c) (listed-one (longer_reach (m o) (t o) (i o) (s o)) (move-one (m o) (t o) (i o) (s o)) k h) }
 
-returns-2 : tie.Need-returns-2
+returns-2 : tie.Need-returns-then-within_cap
 returns-2 c =
-    sym (first-skip limit_past _ (limits-in-range (inside c.before.before)) ∙ first-skip move_too_heavy [] (sym (light-is c.before) ∙ c.if2.true) ∙ first-nothing)
+    sym (first-skip limit_past _ (limits-in-range (inside c.before.before)) ∙ first-skip move_too_heavy [] (sym (light-is c.before) ∙ c.if-within_cap.true) ∙ first-nothing)
 
-returns-3 : tie.Need-returns-3
+returns-3 : tie.Need-returns
 returns-3 c =
-    sym (first-skip limit_past _ (limits-in-range (inside c.before.before)) ∙ first-hit move_too_heavy [] (sym (light-is c.before) ∙ c.if2.false))
+    sym (first-skip limit_past _ (limits-in-range (inside c.before.before)) ∙ first-hit move_too_heavy [] (sym (light-is c.before) ∙ c.if-within_cap.false))
 
-pub refusal-spec : {M : Type 1} → statement M
-refusal-spec =
+pub refusal_spec : {M : Type 1} → statement M
+refusal_spec =
     tie.close
-    (tie.spec
-    good-requires
-    returns
-    reaches-requires
-    magnitude-requires
-    longer-requires
-    within-cap-requires
-    returns-2
-    returns-3)
+    (tie.spec good-requires returns reaches-requires magnitude-requires longer-requires within-cap-requires returns-2 returns-3)
