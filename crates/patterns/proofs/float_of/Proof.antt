@@ -20,14 +20,14 @@ infinity = 9218868437227405312
 no_nan : (n : ℕ) → n % sign ≤ infinity → T (not (nan_bits binary64 n))
 no_nan n h = subst (λ (b : Bool). T (not b)) (sym (nan_bits_above binary64 n)) (not_T (ltb infinity (n % sign)) (λ t. omega (arith, ltb→lt infinity (n % sign) t)))
 
-returns : tie.Need-returns
+returns : tie.Need-returns-then-pattern-gt-INFINITY
 returns c = search rules
 
-float-from-bits-result : tie.Need-float-from-bits-result
+float-from-bits-result : tie.Need-float_from_bits-result
 float-from-bits-result c = no_nan _ (omega arith)
 
-returns-2 : tie.Need-returns-2
+returns-2 : tie.Need-returns
 returns-2 c = search rules
 
-pub float-of-spec : {M : Type 1} → statement M
-float-of-spec = tie.close (tie.spec returns float-from-bits-result returns-2)
+pub float_of_spec : {M : Type 1} → statement M
+float_of_spec = tie.close (tie.spec returns float-from-bits-result returns-2)
