@@ -5,18 +5,15 @@
 --   newline-readings, newline-answers   and after a newline behind them
 --   took-rest, took-line                what is taken up to the end of the input, and up to a newline
 use mathlib.Core.Path.{◌≡◌, refl, sym, ap, ap₂, ◌∙◌, subst}
-use mathlib.Core.Bool.{Bool, true, false, cond}
-use mathlib.Core.List.{List, [], ◌∷◌, ◌++◌, append_assoc, append-nil}
-use Prim.Native.Nat.{ℕ, zero, suc, ◌+◌, ◌-◌, ◌<◌, ◌≤◌}
-use native.Mathlib.Numerals.{add-one}
+use mathlib.Core.Bool.{Bool, true, cond}
+use mathlib.Core.List.{List, [], ◌∷◌, ◌++◌, append-nil}
+use Prim.Native.Nat.{ℕ, suc, ◌+◌, ◌-◌, ◌<◌, ◌≤◌}
 use native.Mathlib.Omega.{arith}
 use borrow.Author.Tests.{eq-eqb, ne_eqb}
-use lib.Dec.{eqb}
 use lib.IntN.{ℤ}
 use lib.ListN.{length, take, drop, get_or, length-take, length-drop}
 use lib.Seq.{take-suc, get_or-drop, take-add}
 use Rattle.lines.specs.State.{stepped, stepped_by, finished}
-use Rattle.lines.proofs.Steps.{steps-append}
 use Rattle.answers.specs.declared.Reading.{Reading}
 use Rattle.answers.specs.Answers.{line_answer, longest}
 use Rattle.answers.specs.Reading.{fresh, reading_after, readings_after, answer_at, answers_of, part, Plain, LinePart, Taken}

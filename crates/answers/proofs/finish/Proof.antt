@@ -1,7 +1,7 @@
 -- `answers::finish` meets its contract: a line that has a byte is answered where there is room.
 -- Assumes nothing.
 use mathlib.Core.Path.{◌≡◌, sym, ap, ◌∙◌}
-use mathlib.Core.Bool.{Bool, true, false, cond}
+use mathlib.Core.Bool.{Bool, cond}
 use mathlib.Core.List.{List, []}
 use Prim.Native.Nat.{ℕ, ◌≤◌}
 use native.Mathlib.Omega.{arith}
@@ -31,39 +31,39 @@ module _ {bytes : List ℕ} (out : List ℕ) (none : bytes ≡ []) where
   kept : out ≡ written out 0 bytes
   kept = written-sets out 0 [] (omega arith) ∙ ap (written out 0) (sym none)
 
-returns : tie.Need-returns
+returns : tie.Need-returns-then-out-lt-LONGEST
 returns c =
     let a = c.before.before.args in
-    let none : last_in a.table.now a.reading (length a.out.now) ≡ [] = ap (λ b. cond b [] (last_answer a.table.now a.reading)) (lt-ltb (length a.out.now) longest c.if1.true) in
+    let none : last_in a.table.now a.reading (length a.out.now) ≡ [] = ap (λ b. cond b [] (last_answer a.table.now a.reading)) (lt-ltb (length a.out.now) longest c.if-out-lt-LONGEST.true) in
     (count_none a.out.now none, (kept a.out.now none, omega arith))
 
-refusal-of-requires : tie.Need-refusal-of-requires
+refusal-of-requires : tie.Need-refusal_of-refused-requires
 refusal-of-requires c κs = search rules
 
 finish-requires : tie.Need-finish-requires
 finish-requires c κs = search rules
 
-put-line-requires : tie.Need-put-line-requires
+put-line-requires : tie.Need-put_line-requires
 put-line-requires c κs = search rules
 
-same_length : tie.Need-same-length
+same_length : tie.Need-shape_of-out-then-reading
 same_length c = search rules
 
-returns-2 : tie.Need-returns-2
+returns-2 : tie.Need-returns-then-reading
 returns-2 c =
     let s = c.before.before.before.before.before.before in
     let a = s.before.before.before.before.args in
-    let line = c.before.before.put-line in
+    let line = c.before.before.put_line in
     let done = c.before.before.before.before.finish in
     let whole : line_answer a.table.now done.result ≡ last_in a.table.now a.reading (length a.out.now) =
-    ap (line_answer a.table.now) done.ensures ∙ sym (with-room a.table.now a.reading (length a.out.now) s.before.before.if1.false s.if2.true) in
-    (omega (arith, line.ensures.0, ap length whole), (line.ensures.1.0 ∙ ap (written a.out.now 0) whole, omega (arith, line.ensures.1.1, s.before.before.if1.false)))
+    ap (line_answer a.table.now) done.ensures ∙ sym (with-room a.table.now a.reading (length a.out.now) s.before.before.if-out-lt-LONGEST.false s.if-reading.true) in
+    (omega (arith, line.ensures.0, ap length whole), (line.ensures.1.0 ∙ ap (written a.out.now 0) whole, omega (arith, line.ensures.1.1, s.before.before.if-out-lt-LONGEST.false)))
 
-returns-3 : tie.Need-returns-3
+returns-3 : tie.Need-returns
 returns-3 c =
     let s = c.before.before in
     let a = s.before.before.args in
-    let none = with-room a.table.now a.reading (length a.out.now) s.if1.false c.if2.false in
+    let none = with-room a.table.now a.reading (length a.out.now) s.if-out-lt-LONGEST.false c.if-reading.false in
     (count_none a.out.now none, (kept a.out.now none, omega arith))
 
 pub finish_spec : {M : Type 1} → statement M
