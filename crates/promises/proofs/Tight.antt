@@ -4,7 +4,8 @@
 --   Outcome      what a call may give back and leave behind by a contract
 --   Tight        any two outcomes of a call are the same, for all arguments, whether or not they meet the `requires`
 --   tight        it is enough that the result and each lent slice are the same
---   FN-tight     the contract of the function FN, as it is generated from the code's own `ensures`; a method has its type's name in front
+--   FN-tight     the contract of the function FN, as it is generated from the code's own `ensures`; a method has its type's name in front.
+--                A contract over a ghost value is tight at each of its values
 use mathlib.Core.Path.{◌≡◌, refl, sym, ◌∙◌, ap}
 use mathlib.Core.List.{List, [], ◌∷◌}
 use Prim.Native.Nat.{ℕ, ◌/◌, ◌<◌}
@@ -28,26 +29,46 @@ use Rattle.printing.specs.Spell.{written}
 use Rattle.answers.specs.Reading.{readings_after, answers_of, Feeding}
 use Rattle.answers.specs.declared.Reading.{Reading}
 use Rattle.answers.specs.declared.Fed.{Fed}
-use Rattle.whole.proofs as whole
-use Rattle.polynomials.proofs as polynomials
-use Rattle.shifting.proofs as shifting
-use Rattle.shapes.proofs as shapes
-use Rattle.limits.proofs as limits
-use Rattle.weights.proofs as weights
-use Rattle.blocks.proofs as blocks
-use Rattle.tables.proofs as tables
-use Rattle.moving.proofs as moving
-use Rattle.states.proofs as states
-use Rattle.cumulus.proofs as cumulus
-use Rattle.gtm.proofs as gtm
-use Rattle.microradians.proofs as microradians
-use Rattle.rounding.proofs as rounding
-use Rattle.thousandths.proofs as thousandths
-use Rattle.door.proofs as door
-use Rattle.clochecloak.proofs as clochecloak
-use Rattle.lines.proofs as lines
-use Rattle.printing.proofs as printing
-use Rattle.answers.proofs as answers
+use Rattle.whole.specs.contracts as whole
+use Rattle.whole.proofs as whole'
+use Rattle.polynomials.specs.contracts as polynomials
+use Rattle.polynomials.proofs as polynomials'
+use Rattle.shifting.specs.contracts as shifting
+use Rattle.shifting.proofs as shifting'
+use Rattle.shapes.specs.contracts as shapes
+use Rattle.shapes.proofs as shapes'
+use Rattle.limits.specs.contracts as limits
+use Rattle.limits.proofs as limits'
+use Rattle.weights.specs.contracts as weights
+use Rattle.weights.proofs as weights'
+use Rattle.blocks.specs.contracts as blocks
+use Rattle.blocks.proofs as blocks'
+use Rattle.tables.specs.contracts as tables
+use Rattle.tables.proofs as tables'
+use Rattle.moving.specs.contracts as moving
+use Rattle.moving.proofs as moving'
+use Rattle.states.specs.contracts as states
+use Rattle.states.proofs as states'
+use Rattle.cumulus.specs.contracts as cumulus
+use Rattle.cumulus.proofs as cumulus'
+use Rattle.gtm.specs.contracts as gtm
+use Rattle.gtm.proofs as gtm'
+use Rattle.microradians.specs.contracts as microradians
+use Rattle.microradians.proofs as microradians'
+use Rattle.rounding.specs.contracts as rounding
+use Rattle.rounding.proofs as rounding'
+use Rattle.thousandths.specs.contracts as thousandths
+use Rattle.thousandths.proofs as thousandths'
+use Rattle.door.specs.contracts as door
+use Rattle.door.proofs as door'
+use Rattle.clochecloak.specs.contracts as clochecloak
+use Rattle.clochecloak.proofs as clochecloak'
+use Rattle.lines.specs.contracts as lines
+use Rattle.lines.proofs as lines'
+use Rattle.printing.specs.contracts as printing
+use Rattle.printing.proofs as printing'
+use Rattle.answers.specs.contracts as answers
+use Rattle.answers.proofs as answers'
 
 abbrev pub Ensures : Ended → Type 1
 Ensures T = (κs : Lfts T.signature.lifetimes) → Args T.signature κs → Res T.signature κs → AtExit T κs → Type 0
@@ -64,11 +85,11 @@ Tight T Post = (κs : Lfts T.signature.lifetimes) (a : Args T.signature κs) (o 
 -- ════ the lent slices one by one, and the other parameters passed over
 abbrev Also : {D : Type 0} (e : Exit D) (x : D) → Last e x → Last e x → Type 0 → Type 0
 Also unchanged x v w P = P
-Also (leaves L l S s) x v w P = (v ≡ w) × P
+Also (leaves L l S s r) x v w P = (v ≡ w) × P
 
 also : {D : Type 0} (e : Exit D) (x : D) (v w : Last e x) {P : Type 0} → Also e x v w P → (v ≡ w) × P
 also unchanged x v w h = (refl, h)
-also (leaves L l S s) x v w h = h
+also (leaves L l S s r) x v w h = h
 
 module _ {n : ℕ} (κs : Lfts n) where
   abbrev SameLasts : (ss : List (Slot n)) (ks : Kepts ss) (a : Denots (types_at ss κs)) → Fins κs ss ks a → Fins κs ss ks a → Type 0
@@ -88,10 +109,10 @@ same : {A : Type 0} {x y z : A} → x ≡ z → y ≡ z → x ≡ y
 same p q = p ∙ sym q
 
 -- ════ whole
-pub magnitude-tight : Tight whole.magnitude.ended whole.magnitude.Reads.Post
+pub magnitude-tight : Tight whole.magnitude.ended whole'.magnitude.Reads.Post
 magnitude-tight κs a o p = tight o p (search same)
 
-pub nearest-away-tight : Tight whole.nearest_away.ended whole.nearest_away.Reads.Post
+pub nearest-away-tight : Tight whole.nearest_away.ended whole'.nearest_away.Reads.Post
 nearest-away-tight κs a o p = tight o p (search same)
 
 -- ════ polynomials
@@ -101,230 +122,230 @@ same-reach h k =
     let most = h.1.most-is ∙ ap (λ n. cap / n) size ∙ sym k.1.most-is in
     λ i. record { size = size i; most = most i }
 
-pub reach-of-tight : Tight polynomials.Reach.of.ended polynomials.Reach.of.Reads.Post
+pub reach-of-tight : Tight polynomials.Reach.of.ended polynomials'.Reach.of.Reads.Post
 reach-of-tight κs a o p = tight o p (same-reach o.allowed p.allowed, tt)
 
-pub number-at-tight : Tight polynomials.number_at.ended polynomials.number_at.Reads.Post
+pub number-at-tight : Tight polynomials.number_at.ended polynomials'.number_at.Reads.Post
 number-at-tight κs a o p = tight o p (search same)
 
-pub value-at-tight : Tight polynomials.value_at.ended polynomials.value_at.Reads.Post
+pub value-at-tight : Tight polynomials.value_at.ended polynomials'.value_at.Reads.Post
 value-at-tight κs a o p = tight o p (search same)
 
-pub add-row-tight : Tight polynomials.add_row.ended polynomials.add_row.Reads.Post
+pub add-row-tight : Tight polynomials.add_row.ended polynomials'.add_row.Reads.Post
 add-row-tight κs a o p = tight o p (search same)
 
-pub weight-at-tight : Tight polynomials.weight_at.ended polynomials.weight_at.Reads.Post
+pub weight-at-tight : Tight polynomials.weight_at.ended polynomials'.weight_at.Reads.Post
 weight-at-tight κs a o p = tight o p (search same)
 
 -- ════ shifting
-pub multiplied-out-tight : Tight shifting.multiplied_out.ended shifting.multiplied_out.Reads.Post
+pub multiplied-out-tight : Tight shifting.multiplied_out.ended shifting'.multiplied_out.Reads.Post
 multiplied-out-tight κs a o p = tight o p (search same)
 
-pub move-group-tight : Tight shifting.move_group.ended shifting.move_group.Reads.Post
-move-group-tight κs a o p = tight o p (search same)
+pub move-group-tight : (s : shifting'.move_group.Reads.Ghost) → Tight shifting.move_group.ended (shifting'.move_group.Reads.Post-at s)
+move-group-tight s κs a o p = tight o p (search same)
 
 -- ════ shapes
-pub shape-size-tight : Tight shapes.size.ended shapes.size.Reads.Post
+pub shape-size-tight : Tight shapes.size.ended shapes'.size.Reads.Post
 shape-size-tight κs a o p = tight o p (search same)
 
-pub shape-variables-tight : Tight shapes.variables.ended shapes.variables.Reads.Post
+pub shape-variables-tight : Tight shapes.variables.ended shapes'.variables.Reads.Post
 shape-variables-tight κs a o p = tight o p (search same)
 
-pub shape-blocks-tight : Tight shapes.blocks.ended shapes.blocks.Reads.Post
+pub shape-blocks-tight : Tight shapes.blocks.ended shapes'.blocks.Reads.Post
 shape-blocks-tight κs a o p = tight o p (search same)
 
-pub shape-groups-tight : Tight shapes.groups.ended shapes.groups.Reads.Post
+pub shape-groups-tight : Tight shapes.groups.ended shapes'.groups.Reads.Post
 shape-groups-tight κs a o p = tight o p (search same)
 
-pub shape-fine-cuts-tight : Tight shapes.fine_cuts.ended shapes.fine_cuts.Reads.Post
+pub shape-fine-cuts-tight : Tight shapes.fine_cuts.ended shapes'.fine_cuts.Reads.Post
 shape-fine-cuts-tight κs a o p = tight o p (search same)
 
-pub shape-has-fine-cut-tight : Tight shapes.has_fine_cut.ended shapes.has_fine_cut.Reads.Post
+pub shape-has-fine-cut-tight : Tight shapes.has_fine_cut.ended shapes'.has_fine_cut.Reads.Post
 shape-has-fine-cut-tight κs a o p = tight o p (search same)
 
-pub shape-limits-tight : Tight shapes.limits.ended shapes.limits.Reads.Post
+pub shape-limits-tight : Tight shapes.limits.ended shapes'.limits.Reads.Post
 shape-limits-tight κs a o p = tight o p (search same)
 
-pub shape-block-tight : Tight shapes.block.ended shapes.block.Reads.Post
+pub shape-block-tight : Tight shapes.block.ended shapes'.block.Reads.Post
 shape-block-tight κs a o p = tight o p (search same)
 
-pub shape-table-tight : Tight shapes.table.ended shapes.table.Reads.Post
+pub shape-table-tight : Tight shapes.table.ended shapes'.table.Reads.Post
 shape-table-tight κs a o p = tight o p (search same)
 
-pub shape-start-tight : Tight shapes.start.ended shapes.start.Reads.Post
+pub shape-start-tight : Tight shapes.start.ended shapes'.start.Reads.Post
 shape-start-tight κs a o p = tight o p (search same)
 
-pub shape-outside-tight : Tight shapes.outside.ended shapes.outside.Reads.Post
+pub shape-outside-tight : Tight shapes.outside.ended shapes'.outside.Reads.Post
 shape-outside-tight κs a o p = tight o p (search same)
 
-pub shape-kind-tight : Tight shapes.kind.ended shapes.kind.Reads.Post
+pub shape-kind-tight : Tight shapes.kind.ended shapes'.kind.Reads.Post
 shape-kind-tight κs a o p = tight o p (search same)
 
 -- ════ limits
 same-limits : {x y : Limits} {m : Model} {n : List ℤ} → (x.model ≡ m) × (x.numbers ≡ n) → (y.model ≡ m) × (y.numbers ≡ n) → x ≡ y
 same-limits h k i = record { model = same h.0 k.0 i; numbers = same h.1 k.1 i }
 
-pub limits-of-tight : Tight limits.Limits.of.ended limits.Limits.of.Reads.Post
+pub limits-of-tight : Tight limits.Limits.of.ended limits'.Limits.of.Reads.Post
 limits-of-tight κs a o p = tight o p (same-limits o.allowed p.allowed, tt)
 
-pub limits-fine-cut-tight : Tight limits.Limits.fine_cut.ended limits.Limits.fine_cut.Reads.Post
+pub limits-fine-cut-tight : Tight limits.Limits.fine_cut.ended limits'.Limits.fine_cut.Reads.Post
 limits-fine-cut-tight κs a o p = tight o p (search same)
 
-pub limits-lowest-tight : Tight limits.Limits.lowest.ended limits.Limits.lowest.Reads.Post
+pub limits-lowest-tight : Tight limits.Limits.lowest.ended limits'.Limits.lowest.Reads.Post
 limits-lowest-tight κs a o p = tight o p (search same)
 
-pub limits-highest-tight : Tight limits.Limits.highest.ended limits.Limits.highest.Reads.Post
+pub limits-highest-tight : Tight limits.Limits.highest.ended limits'.Limits.highest.Reads.Post
 limits-highest-tight κs a o p = tight o p (search same)
 
-pub limits-good-tight : Tight limits.Limits.good.ended limits.Limits.good.Reads.Post
+pub limits-good-tight : Tight limits.Limits.good.ended limits'.Limits.good.Reads.Post
 limits-good-tight κs a o p = tight o p (search same)
 
-pub limits-moved-tight : Tight limits.Limits.moved.ended limits.Limits.moved.Reads.Post
+pub limits-moved-tight : Tight limits.Limits.moved.ended limits'.Limits.moved.Reads.Post
 limits-moved-tight κs a o p = tight o p (same-limits o.allowed p.allowed, tt)
 
-pub limits-reaches-tight : Tight limits.Limits.reaches.ended limits.Limits.reaches.Reads.Post
+pub limits-reaches-tight : Tight limits.Limits.reaches.ended limits'.Limits.reaches.Reads.Post
 limits-reaches-tight κs a o p = tight o p (search same)
 
-pub limits-inside-tight : Tight limits.Limits.inside.ended limits.Limits.inside.Reads.Post
+pub limits-inside-tight : Tight limits.Limits.inside.ended limits'.Limits.inside.Reads.Post
 limits-inside-tight κs a o p = tight o p (search same)
 
-pub limits-outside-tight : Tight limits.Limits.outside.ended limits.Limits.outside.Reads.Post
+pub limits-outside-tight : Tight limits.Limits.outside.ended limits'.Limits.outside.Reads.Post
 limits-outside-tight κs a o p = tight o p (search same)
 
-pub limits-piece-tight : Tight limits.Limits.piece.ended limits.Limits.piece.Reads.Post
+pub limits-piece-tight : Tight limits.Limits.piece.ended limits'.Limits.piece.Reads.Post
 limits-piece-tight κs a o p = tight o p (search same)
 
 -- ════ weights
-pub within-cap-tight : Tight weights.within_cap.ended weights.within_cap.Reads.Post
+pub within-cap-tight : Tight weights.within_cap.ended weights'.within_cap.Reads.Post
 within-cap-tight κs a o p = tight o p (search same)
 
 -- ════ blocks
-pub coefficient-at-tight : Tight blocks.coefficient_at.ended blocks.coefficient_at.Reads.Post
+pub coefficient-at-tight : Tight blocks.coefficient_at.ended blocks'.coefficient_at.Reads.Post
 coefficient-at-tight κs a o p = tight o p (search same)
 
-pub move-block-tight : Tight blocks.move_block.ended blocks.move_block.Reads.Post
-move-block-tight κs a o p = tight o p (search same)
+pub move-block-tight : (s : blocks'.move_block.Reads.Ghost) → Tight blocks.move_block.ended (blocks'.move_block.Reads.Post-at s)
+move-block-tight s κs a o p = tight o p (search same)
 
-pub copy-tight : Tight blocks.copy.ended blocks.copy.Reads.Post
+pub copy-tight : Tight blocks.copy.ended blocks'.copy.Reads.Post
 copy-tight κs a o p = tight o p (search same)
 
 -- ════ tables
-pub publish-table-tight : Tight tables.publishing.publish.ended tables.publishing.publish.Reads.Post
+pub publish-table-tight : Tight tables.publishing.publish.ended tables'.publishing.publish.Reads.Post
 publish-table-tight κs a o p = tight o p (search same)
 
-pub soundness-tight : Tight tables.soundness.soundness.ended tables.soundness.soundness.Reads.Post
+pub soundness-tight : Tight tables.soundness.soundness.ended tables'.soundness.soundness.Reads.Post
 soundness-tight κs a o p = tight o p (search same)
 
-pub refusal-of-tight : Tight tables.soundness.refusal_of.ended tables.soundness.refusal_of.Reads.Post
+pub refusal-of-tight : Tight tables.soundness.refusal_of.ended tables'.soundness.refusal_of.Reads.Post
 refusal-of-tight κs a o p = tight o p (search same)
 
-pub write-values-tight : Tight tables.reading.write_values.ended tables.reading.write_values.Reads.Post
+pub write-values-tight : Tight tables.reading.write_values.ended tables'.reading.write_values.Reads.Post
 write-values-tight κs a o p = tight o p (search same)
 
-pub read-sound-tight : Tight tables.reading.read_sound.ended tables.reading.read_sound.Reads.Post
+pub read-sound-tight : Tight tables.reading.read_sound.ended tables'.reading.read_sound.Reads.Post
 read-sound-tight κs a o p = tight o p (search same)
 
-pub read-known-tight : Tight tables.reading.read_known.ended tables.reading.read_known.Reads.Post
+pub read-known-tight : Tight tables.reading.read_known.ended tables'.reading.read_known.Reads.Post
 read-known-tight κs a o p = tight o p (search same)
 
-pub refusal-into-tight : Tight tables.soundness.refusal_into.ended tables.soundness.refusal_into.Reads.Post
+pub refusal-into-tight : Tight tables.soundness.refusal_into.ended tables'.soundness.refusal_into.Reads.Post
 refusal-into-tight κs a o p = tight o p (search same)
 
 -- ════ moving
-pub model-move-datum-tight : Tight moving.move_datum.ended moving.move_datum.Reads.Post
+pub model-move-datum-tight : Tight moving.move_datum.ended moving'.move_datum.Reads.Post
 model-move-datum-tight κs a o p = tight o p (search same)
 
 -- ════ states
-pub model-read-many-tight : Tight states.read_many.ended states.read_many.Reads.Post
+pub model-read-many-tight : Tight states.read_many.ended states'.read_many.Reads.Post
 model-read-many-tight κs a o p = tight o p (search same)
 
 -- ════ cumulus
-pub publish-tight : Tight cumulus.publish.ended cumulus.publish.Reads.Post
+pub publish-tight : Tight cumulus.publish.ended cumulus'.publish.Reads.Post
 publish-tight κs a o p = tight o p (search same)
 
-pub read-tight : Tight cumulus.read.ended cumulus.read.Reads.Post
+pub read-tight : Tight cumulus.read.ended cumulus'.read.Reads.Post
 read-tight κs a o p = tight o p (search same)
 
-pub read-many-tight : Tight cumulus.read_many.ended cumulus.read_many.Reads.Post
+pub read-many-tight : Tight cumulus.read_many.ended cumulus'.read_many.Reads.Post
 read-many-tight κs a o p = tight o p (search same)
 
-pub move-datum-tight : Tight cumulus.move_datum.ended cumulus.move_datum.Reads.Post
+pub move-datum-tight : Tight cumulus.move_datum.ended cumulus'.move_datum.Reads.Post
 move-datum-tight κs a o p = tight o p (search same)
 
 -- ════ gtm
-pub gtm-publish-tight : Tight gtm.publish.ended gtm.publish.Reads.Post
+pub gtm-publish-tight : Tight gtm.publish.ended gtm'.publish.Reads.Post
 gtm-publish-tight κs a o p = tight o p (search same)
 
-pub gtm-read-tight : Tight gtm.read.ended gtm.read.Reads.Post
+pub gtm-read-tight : Tight gtm.read.ended gtm'.read.Reads.Post
 gtm-read-tight κs a o p = tight o p (search same)
 
-pub gtm-move-datum-tight : Tight gtm.move_datum.ended gtm.move_datum.Reads.Post
+pub gtm-move-datum-tight : Tight gtm.move_datum.ended gtm'.move_datum.Reads.Post
 gtm-move-datum-tight κs a o p = tight o p (search same)
 
 -- ════ microradians
-pub read-microradians-tight : Tight microradians.read.ended microradians.read.Reads.Post
+pub read-microradians-tight : Tight microradians.read.ended microradians'.read.Reads.Post
 read-microradians-tight κs a o p = tight o p (search same)
 
 -- ════ rounding
-pub at-most-tight : Tight thousandths.at_most.ended thousandths.at_most.Reads.Post
+pub at-most-tight : Tight thousandths.at_most.ended thousandths'.at_most.Reads.Post
 at-most-tight κs a o p = tight o p (search same)
 
-pub step-of-tight : Tight rounding.step_of.ended rounding.step_of.Reads.Post
+pub step-of-tight : Tight rounding.step_of.ended rounding'.step_of.Reads.Post
 step-of-tight κs a o p = tight o p (search same)
 
-pub answer-tight : Tight rounding.answer.ended rounding.answer.Reads.Post
+pub answer-tight : Tight rounding.answer.ended rounding'.answer.Reads.Post
 answer-tight κs a o p = tight o p (search same)
 
 -- ════ door
-pub read-floats-tight : Tight door.read_floats.ended door.read_floats.Reads.Post
+pub read-floats-tight : Tight door.read_floats.ended door'.read_floats.Reads.Post
 read-floats-tight κs a o p = tight o p (search same)
 
 -- ════ clochecloak
-pub clochecloak-publish-tight : Tight clochecloak.clochecloak_publish.ended clochecloak.clochecloak_publish.Reads.Post
+pub clochecloak-publish-tight : Tight clochecloak.clochecloak_publish.ended clochecloak'.clochecloak_publish.Reads.Post
 clochecloak-publish-tight κs a o p = tight o p (search same)
 
-pub clochecloak-read-tight : Tight clochecloak.clochecloak_read.ended clochecloak.clochecloak_read.Reads.Post
+pub clochecloak-read-tight : Tight clochecloak.clochecloak_read.ended clochecloak'.clochecloak_read.Reads.Post
 clochecloak-read-tight κs a o p = tight o p (search same)
 
-pub clochecloak-read-many-tight : Tight clochecloak.clochecloak_read_many.ended clochecloak.clochecloak_read_many.Reads.Post
+pub clochecloak-read-many-tight : Tight clochecloak.clochecloak_read_many.ended clochecloak'.clochecloak_read_many.Reads.Post
 clochecloak-read-many-tight κs a o p = tight o p (search same)
 
-pub clochecloak-read-microradians-tight : Tight clochecloak.clochecloak_read_microradians.ended clochecloak.clochecloak_read_microradians.Reads.Post
+pub clochecloak-read-microradians-tight : Tight clochecloak.clochecloak_read_microradians.ended clochecloak'.clochecloak_read_microradians.Reads.Post
 clochecloak-read-microradians-tight κs a o p = tight o p (search same)
 
-pub clochecloak-move-tight : Tight clochecloak.clochecloak_move.ended clochecloak.clochecloak_move.Reads.Post
+pub clochecloak-move-tight : Tight clochecloak.clochecloak_move.ended clochecloak'.clochecloak_move.Reads.Post
 clochecloak-move-tight κs a o p = tight o p (search same)
 
-pub clochecloak-gtm-publish-tight : Tight clochecloak.clochecloak_gtm_publish.ended clochecloak.clochecloak_gtm_publish.Reads.Post
+pub clochecloak-gtm-publish-tight : Tight clochecloak.clochecloak_gtm_publish.ended clochecloak'.clochecloak_gtm_publish.Reads.Post
 clochecloak-gtm-publish-tight κs a o p = tight o p (search same)
 
-pub clochecloak-gtm-read-tight : Tight clochecloak.clochecloak_gtm_read.ended clochecloak.clochecloak_gtm_read.Reads.Post
+pub clochecloak-gtm-read-tight : Tight clochecloak.clochecloak_gtm_read.ended clochecloak'.clochecloak_gtm_read.Reads.Post
 clochecloak-gtm-read-tight κs a o p = tight o p (search same)
 
-pub clochecloak-gtm-move-tight : Tight clochecloak.clochecloak_gtm_move.ended clochecloak.clochecloak_gtm_move.Reads.Post
+pub clochecloak-gtm-move-tight : Tight clochecloak.clochecloak_gtm_move.ended clochecloak'.clochecloak_gtm_move.Reads.Post
 clochecloak-gtm-move-tight κs a o p = tight o p (search same)
 
-pub clochecloak-read-floats-tight : Tight clochecloak.clochecloak_read_floats.ended clochecloak.clochecloak_read_floats.Reads.Post
+pub clochecloak-read-floats-tight : Tight clochecloak.clochecloak_read_floats.ended clochecloak'.clochecloak_read_floats.Reads.Post
 clochecloak-read-floats-tight κs a o p = tight o p (search same)
 
 -- ════ lines
-pub state-start-tight : Tight lines.State.start.ended lines.State.start.Reads.Post
+pub state-start-tight : Tight lines.State.start.ended lines'.State.start.Reads.Post
 state-start-tight κs a o p = tight o p (search same)
 
-pub state-step-tight : Tight lines.State.step.ended lines.State.step.Reads.Post
+pub state-step-tight : Tight lines.State.step.ended lines'.State.step.Reads.Post
 state-step-tight κs a o p = tight o p (search same)
 
-pub state-finish-tight : Tight lines.State.finish.ended lines.State.finish.Reads.Post
+pub state-finish-tight : Tight lines.State.finish.ended lines'.State.finish.Reads.Post
 state-finish-tight κs a o p = tight o p (search same)
 
 -- ════ printing
-pub put-few-tight : Tight printing.put_few.ended printing.put_few.Reads.Post
+pub put-few-tight : Tight printing.put_few.ended printing'.put_few.Reads.Post
 put-few-tight κs a o p = tight o p (search same)
 
-pub put-digits-tight : Tight printing.put_digits.ended printing.put_digits.Reads.Post
+pub put-digits-tight : Tight printing.put_digits.ended printing'.put_digits.Reads.Post
 put-digits-tight κs a o p = tight o p (search same)
 
-pub put-number-tight : Tight printing.put_number.ended printing.put_number.Reads.Post
+pub put-number-tight : Tight printing.put_number.ended printing'.put_number.Reads.Post
 put-number-tight κs a o p = tight o p (search same)
 
 -- ════ answers
@@ -348,11 +369,11 @@ module _ {t : List ℤ} {r : Reading} {input out : List ℕ} where
       let b : f.put ≡ g.put = p.place ∙ ap (λ n. length (answers_of t r (take n input))) e ∙ sym q.place in
       ((λ i. record { reading = a i; taken = e i; put = b i }), p.output ∙ ap (λ n. written out 0 (answers_of t r (take n input))) e ∙ sym q.output)
 
-pub reading-fresh-tight : Tight answers.Reading.fresh.ended answers.Reading.fresh.Reads.Post
+pub reading-fresh-tight : Tight answers.Reading.fresh.ended answers'.Reading.fresh.Reads.Post
 reading-fresh-tight κs a o p = tight o p (search same)
 
-pub feed-tight : Tight answers.feed.ended answers.feed.Reads.Post
+pub feed-tight : Tight answers.feed.ended answers'.feed.Reads.Post
 feed-tight κs a o p = let h = same-fed o.allowed p.allowed in tight o p (search h)
 
-pub finish-tight : Tight answers.finish.ended answers.finish.Reads.Post
+pub finish-tight : Tight answers.finish.ended answers'.finish.Reads.Post
 finish-tight κs a o p = tight o p (search same)

@@ -1,1 +1,2 @@
 // No code: the promises are in proofs/Promises.antt.
+#![tactic(auto)]
