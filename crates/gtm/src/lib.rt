@@ -1,4 +1,6 @@
 // The published table of the GTM's longitudinal model.
+#![tactic(auto)]
+
 ghost use Rattle.std.specs.Prelude.{◌≡◌};
 ghost use Rattle.layout.specs.Shape.{gtm};
 ghost use Rattle.layout.specs.Publishing.{publish_number, publish_output};
