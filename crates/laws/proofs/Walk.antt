@@ -2,7 +2,7 @@
 --   at-kind                     the next, and those after it
 --   length-next, groups-next    how many numbers they have, and the groups that stand at a place
 --   length_none, groups_none    past the last
-use mathlib.Core.Path.{◌≡◌, refl, sym, ◌∙◌, ap, ap₂}
+use mathlib.Core.Path.{◌≡◌, sym, ◌∙◌, ap, ap₂}
 use mathlib.Core.List.{List, [], ◌∷◌}
 use Prim.Native.Nat.{ℕ, zero, suc, ◌+◌, ◌≤◌, ◌<◌}
 use native.Mathlib.Numerals.{add-one}

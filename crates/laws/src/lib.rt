@@ -1,3 +1,2 @@
 // No code: the laws of tables are in proofs/.
 #![tactic(auto)]
-

@@ -5,7 +5,7 @@
 --   row-past                a group's rows above its degree are 0
 --   rows-value              with the exact product: a group's rows, however many of those that are 0 are taken, come to its value
 --   downward-value          so do those up to its degree
-use mathlib.Core.Path.{◌≡◌, refl, sym, ◌∙◌, ap, ap₂}
+use mathlib.Core.Path.{◌≡◌, sym, ◌∙◌, ap, ap₂}
 use mathlib.Core.List.{List}
 use Prim.Native.Nat.{ℕ, zero, suc, ◌+◌, ◌-◌, ◌≤◌, ◌<◌}
 use native.Mathlib.Nat as N

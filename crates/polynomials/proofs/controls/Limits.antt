@@ -1,6 +1,6 @@
 -- Controls of the cap: the sum that meets it is within, one more has passed it; of two sums together each is held against it.
 use mathlib.Core.Path.{◌≡◌, refl}
-use mathlib.Core.List.{List, [], ◌∷◌}
+use mathlib.Core.List.{[], ◌∷◌}
 use Prim.Native.Nat.{◌*◌, ◌^◌, ◌<◌}
 use native.Mathlib.Omega.{arith}
 use Rattle.polynomials.specs.Limits.{cap, farthest, highest_degree, against, joint}

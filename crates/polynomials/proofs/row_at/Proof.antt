@@ -1,17 +1,17 @@
 -- `polynomials::row_at` meets its contract. The loop's invariant: the row is what its numbers from the power p on come to. The group's weight at a reach of
 -- 1 beside bounds it, and its product with the reading. Assumes nothing.
 use mathlib.Core.Path.{◌≡◌, refl, sym, ◌∙◌, ap}
-use mathlib.Core.List.{List, map}
-use Prim.Native.Nat.{ℕ, ◌+◌, ◌-◌, ◌*◌, ◌≤◌, ◌<◌, max}
+use mathlib.Core.List.{List}
+use Prim.Native.Nat.{ℕ, ◌+◌, ◌-◌, ◌≤◌, ◌<◌, max}
 use native.Mathlib.Nat as N
 use native.Mathlib.Omega.{arith}
 use borrow.Author.Rules.{rules, sfits_of}
-use lib.IntN.{ℤ, pos, nat_abs, ◌+ℤ◌, ◌*ℤ◌}
+use lib.IntN.{ℤ, nat_abs, ◌+ℤ◌, ◌*ℤ◌}
 use mir.Syntax.{w64}
 use mir.Val.{SFits, to_z, of_z}
 use mir.Facts.{to_z-of_z}
 use Rattle.whole.proofs.Machine.{op-bits, op-back}
-use Rattle.polynomials.specs.Numbers.{ints, nats}
+use Rattle.polynomials.specs.Numbers.{ints}
 use Rattle.polynomials.specs.Group.{number}
 use Rattle.polynomials.specs.Downward.{down, row_downward, row_weight}
 use Rattle.polynomials.specs.Limits.{cap, highest_degree}
