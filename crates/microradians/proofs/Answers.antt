@@ -5,22 +5,21 @@
 --   within-reach, all_near    an accepted reading is within the reach of its piece, and at most a radian
 --   piece-given               the answers, block by block
 use mathlib.Core.Path.{◌≡◌, refl, sym, ◌∙◌, ap}
-use mathlib.Core.Bool.{Bool, true, false, not, cond}
+use mathlib.Core.Bool.{true, false, not, cond}
 use mathlib.Core.List.{List, map}
-use Prim.Native.Nat.{ℕ, zero, suc, ◌≤◌, ◌<◌}
+use Prim.Native.Nat.{ℕ, ◌≤◌, ◌<◌}
 use native.Mathlib.Nat as N
 use native.Mathlib.Omega.{arith}
 use borrow.Author.Tests.{eq-eqb, ne_eqb, eqb-true, leb-true, not-false}
-use lib.Dec.{eqb, leb}
-use lib.IntN.{ℤ, pos, nat_abs}
+use lib.Dec.{leb}
+use lib.IntN.{ℤ, nat_abs}
 use lib.ListN.{length, get_or}
-use lib.Signed.{le_z}
 use Rattle.polynomials.specs.Sum.{listed}
 use Rattle.layout.specs.Shape.{cumulus}
-use Rattle.layout.specs.Limits.{every, cut}
+use Rattle.layout.specs.Limits.{every}
 use Rattle.layout.specs.Blocks.{Piece, low, high, piece}
 use Rattle.layout.specs.Sound.{reach}
-use Rattle.layout.specs.Refusals.{Refusal, ◌when◌, first, unless_refused, done, wrong_output, outside}
+use Rattle.layout.specs.Refusals.{◌when◌, first, unless_refused, done, wrong_output, outside}
 use Rattle.layout.specs.Reading.{inside, piece_at}
 use Rattle.laws.proofs.Tests.{every-all}
 use Rattle.laws.proofs.Reaches.{inside-reach}

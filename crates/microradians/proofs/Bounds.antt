@@ -1,12 +1,11 @@
 -- How large what is summed down is: no multiplication makes a number larger, so n numbers come to at most n times the largest.
 --   times-size              a product with a reading of at most a radian
 --   row-size, group-size    a row and a group, from a power on
-use mathlib.Core.Path.{◌≡◌}
 use mathlib.Core.List.{List}
-use Prim.Native.Nat.{ℕ, zero, suc, ◌+◌, ◌-◌, ◌*◌, ◌≤◌, ◌<◌}
+use Prim.Native.Nat.{ℕ, zero, suc, ◌-◌, ◌*◌, ◌≤◌}
 use native.Mathlib.Nat as N
 use native.Mathlib.Omega.{arith}
-use lib.IntN.{ℤ, nat_abs, ◌+ℤ◌, ◌*ℤ◌}
+use lib.IntN.{ℤ, nat_abs, ◌*ℤ◌}
 use Rattle.whole.proofs.Magnitudes.{nat_abs-+, nat_abs-*}
 use Rattle.whole.proofs.Nearest.{nearest-size}
 use Rattle.polynomials.specs.Numbers.{ints}

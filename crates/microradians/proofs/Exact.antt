@@ -4,10 +4,10 @@
 --   answer-off  a coefficient, by its reaches
 --   followed, slack-counted   what that comes to: by the envelope's reaches 6.91 units of 10⁻⁹; a half for each of 37 products
 --   near-followed, near-counted, near-asked   every answer of an accepted read
-use mathlib.Core.Path.{◌≡◌, refl, sym, ◌∙◌, ap, ap₂, subst}
+use mathlib.Core.Path.{◌≡◌, refl, sym, ◌∙◌, ap, ap₂}
 use mathlib.Core.Bool.{Bool, true, false, cond}
 use mathlib.Core.List.{List, [], ◌∷◌}
-use Prim.Native.Nat.{ℕ, suc, ◌+◌, ◌-◌, ◌*◌, ◌^◌, ◌≤◌, ◌<◌}
+use Prim.Native.Nat.{ℕ, suc, ◌+◌, ◌*◌, ◌^◌, ◌≤◌, ◌<◌}
 use native.Mathlib.Nat as N
 use native.Mathlib.Omega.{arith}
 use borrow.Author.Tests.{leb-true}
@@ -44,7 +44,7 @@ use Rattle.cumulus_page.specs.Model.{Coefficient, coefficient_at, microradians, 
 use Rattle.printed.specs.Stored.{degree, printed_at, group, by_kind, each_belongs}
 use Rattle.cumulus_page.proofs.Model.{equation, held-equation, own-variables}
 use Rattle.printed.proofs.Answers.{all_hold}
-use Rattle.microradians.specs.Fixed.{per_printed, ◌⊛◌, in_fixed_point}
+use Rattle.microradians.specs.Fixed.{per_printed, in_fixed_point}
 use Rattle.microradians.specs.Answer.{fine_limits, answer_in, fine_number, fine_output}
 use Rattle.microradians.proofs.Answers.{number-given, within-reach, reach_near}
 use Rattle.microradians.proofs.Off.{M, Off, off-+, off_nil}

@@ -19,7 +19,7 @@ use mir.Val.{SFits}
 use Rattle.whole.proofs.Magnitudes.{nat_abs-+}
 use Rattle.whole.proofs.Machine.{nat_abs-sfits}
 use Rattle.polynomials.specs.Numbers.{ints}
-use Rattle.polynomials.specs.Order.{powers, below, size, place}
+use Rattle.polynomials.specs.Order.{below, size, place}
 use Rattle.polynomials.specs.Sum.{listed}
 use Rattle.polynomials.specs.Group.{number}
 use Rattle.polynomials.specs.Limits.{highest_degree}

@@ -5,7 +5,7 @@
 --   off-times         a product with a reading of at most R: the distance grows R-fold where the unit grows 10⁶-fold, and one half of that unit comes with
 --                     the rounding
 --   off_nil           0 is not off; nil-times: nor is 0 times a reading
-use mathlib.Core.Path.{◌≡◌, refl, sym, ◌∙◌, ap, ap₂}
+use mathlib.Core.Path.{◌≡◌, sym, ◌∙◌, ap, ap₂}
 use Prim.Native.Nat.{ℕ, ◌+◌, ◌*◌, ◌≤◌}
 use native.Mathlib.Nat as N
 use native.Mathlib.Omega.{arith}

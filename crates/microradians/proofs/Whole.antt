@@ -4,7 +4,7 @@
 --   near-whole    and each answer is within the same bound of that read's
 use mathlib.Core.Path.{◌≡◌, refl, sym, ◌∙◌, ap, ap₂}
 use mathlib.Core.Bool.{not, ◌&&◌}
-use mathlib.Core.List.{List, map}
+use mathlib.Core.List.{List}
 use Prim.Native.Nat.{ℕ, ◌*◌, ◌^◌, ◌≤◌, ◌<◌}
 use native.Mathlib.Omega.{arith}
 use lib.IntN.{ℤ, pos, nat_abs, ◌-ℤ◌, ◌*ℤ◌}
@@ -20,7 +20,7 @@ use Rattle.layout.specs.Limits.{lowest, highest}
 use Rattle.layout.specs.Refusals.{◌when◌, first, done, outside}
 use Rattle.layout.specs.Reading.{inside, read_number, read_output}
 use Rattle.laws.proofs.Tests.{true-iff, le_z-fact, fact-le_z}
-use Rattle.cumulus_page.specs.Model.{coefficients, coefficient_at, model_value, fine_value}
+use Rattle.cumulus_page.specs.Model.{coefficient_at, model_value, fine_value}
 use Rattle.cumulus_page.specs.Published.{published}
 use Rattle.cumulus_page.proofs.Envelope.{read_number_lem, read-inside}
 use Rattle.cumulus_page.proofs.Model.{read-model}

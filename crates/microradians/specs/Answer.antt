@@ -1,5 +1,5 @@
 -- The published table at five readings in microradians: six answers in units of 10⁻⁹.
-use Rattle.std.specs.Prelude.{not, List, [], ◌∷◌, map, ℕ, eqb, ℤ, pos, ◌*ℤ◌, length, set}
+use Rattle.std.specs.Prelude.{not, List, ◌∷◌, map, ℕ, eqb, ℤ, pos, ◌*ℤ◌, length, set}
 use Rattle.polynomials.specs.Sum.{listed}
 use Rattle.layout.specs.Shape.{cut_place, cumulus}
 use Rattle.layout.specs.Blocks.{Piece}

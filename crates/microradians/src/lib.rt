@@ -1,4 +1,6 @@
 // The published table read in microradians: fixed point in units of 10^-9, one rounding for each multiplication.
+#![tactic(auto)]
+
 mod numbers;
 
 ghost use Rattle.std.specs.Prelude.{◌≡◌, ◌<◌, ◌≤◌, nat_abs, length};

@@ -41,7 +41,7 @@ module _ {b i degree u v : ℕ} (f : Found b i degree u v) (l : List ℤ) (e : l
 
 module _ (c : tie.Start) where
   abbrev x : ℕ → ℤ
-  x = readings c.args.t3
+  x = readings c.args.state
 
   abbrev b : ℕ
   b = c.args.block
@@ -62,14 +62,14 @@ module _ (c : tie.Start) where
   rudder = zeta-found b c.requires.0
 
 -- ════ the three values, as they come back
-module _ (c : tie.After-group-at3) where
-  abbrev after-xi : tie.After-group-at2
+module _ (c : tie.After-group_at-3) where
+  abbrev after-xi : tie.After-group_at-2
   after-xi = c.before.before.before.before
 
-  abbrev after-pitch : tie.After-group-at
+  abbrev after-pitch : tie.After-group_at
   after-pitch = after-xi.before.before.before.before
 
-  abbrev found : tie.After-numbers-of3
+  abbrev found : tie.After-numbers_of-rudder
   found = after-pitch.before.before.before.before
 
   abbrev start : tie.Start
@@ -81,124 +81,102 @@ module _ (c : tie.After-group-at3) where
   pitch-is : to_z w64 (of_z w64 after-pitch.group_at.result) ≡ value (n start)
   pitch-is =
       let g = after-pitch.group_at in
-      back (pitch start) _ found.before.before.Numbers-of.ensures (x start) g.result (near start 0 (omega arith)) (near start 3 (omega arith)) (sfits_of {z = g.result} g.ok) g.ensures
+      back (pitch start) _ found.before.before.numbers_of-pitch.ensures (x start) g.result (near start 0 (omega arith)) (near start 3 (omega arith)) (sfits_of {z = g.result} g.type_inv) g.ensures
 
-  xi-is : to_z w64 (of_z w64 after-xi.group-at2.result) ≡ value 2
+  xi-is : to_z w64 (of_z w64 after-xi.group_at-2.result) ≡ value 2
   xi-is =
-      let g = after-xi.group-at2 in
-      back (aileron start) _ found.before.numbers-of2.ensures (x start) g.result (near start 1 (omega arith)) (near start 2 (omega arith)) (sfits_of {z = g.result} g.ok) g.ensures
+      let g = after-xi.group_at-2 in
+      back (aileron start) _ found.before.numbers_of-aileron.ensures (x start) g.result (near start 1 (omega arith)) (near start 2 (omega arith)) (sfits_of {z = g.result} g.type_inv) g.ensures
 
-  zeta-is : to_z w64 (of_z w64 c.group-at3.result) ≡ value 3
+  zeta-is : to_z w64 (of_z w64 c.group_at-3.result) ≡ value 3
   zeta-is =
-      let g = c.group-at3 in
-      back (rudder start) _ found.numbers-of3.ensures (x start) g.result (near start 1 (omega arith)) (near start 4 (omega arith)) (sfits_of {z = g.result} g.type-inv) g.ensures
+      let g = c.group_at-3 in
+      back (rudder start) _ found.numbers_of-rudder.ensures (x start) g.result (near start 1 (omega arith)) (near start 4 (omega arith)) (sfits_of {z = g.result} g.type_inv) g.ensures
 
   sides : SFits w64 (value 2 +ℤ value 3)
-  sides = sides-fit (b start) (n start) start.pre.0 start.pre.1.0 (x start) start.pre.1.1
+  sides = sides-fit (b start) (n start) start.requires.0 start.requires.1.0 (x start) start.requires.1.1
 
   all : SFits w64 (value (n start) +ℤ (value 2 +ℤ value 3))
-  all = all_fit (b start) (n start) start.pre.0 start.pre.1.0 (x start) start.pre.1.1
+  all = all_fit (b start) (n start) start.requires.0 start.requires.1.0 (x start) start.requires.1.1
 
-mul-first : tie.Need-overflow-mul-first
+mul-first : tie.Need-overflow_mul-first
 mul-first c = search rules
 
-add-numbers-of : tie.Need-overflow-add-numbers-of
+add-numbers-of : tie.Need-overflow_add-first
 add-numbers-of c = search rules
 
-numbers-of-requires : tie.Need-numbers-of-requires
+numbers-of-requires : tie.Need-numbers_of-pitch-requires
 numbers-of-requires c κs = omega (arith, c.requires.0, c.requires.1.0)
 
-add-numbers-of-2 : tie.Need-overflow-add-numbers-of-2
+add-numbers-of-2 : tie.Need-overflow_add-first-2
 add-numbers-of-2 c = search rules
 
-numbers-of-requires-2 : tie.Need-numbers-of-requires-2
+numbers-of-requires-2 : tie.Need-numbers_of-aileron-requires
 numbers-of-requires-2 c κs = omega (arith, c.before.requires.0)
 
-add-numbers-of-3 : tie.Need-overflow-add-numbers-of-3
+add-numbers-of-3 : tie.Need-overflow_add-first-3
 add-numbers-of-3 c = search rules
 
-numbers-of-requires-3 : tie.Need-numbers-of-requires-3
+numbers-of-requires-3 : tie.Need-numbers_of-rudder-requires
 numbers-of-requires-3 c κs = omega (arith, c.before.before.requires.0)
 
-slice-aggregate-group-at : tie.Need-slice-aggregate-group-at
+slice-aggregate-group-at : tie.Need-slice_bounds-group_at-end
 slice-aggregate-group-at c = search rules
 
-array-copy-out-group-at : tie.Need-array-copy-out-group-at
+array-copy-out-group-at : tie.Need-bounds-state-0
 array-copy-out-group-at c = search rules
 
-array-copy-out-group-at-2 : tie.Need-array-copy-out-group-at-2
+array-copy-out-group-at-2 : tie.Need-bounds-state-3
 array-copy-out-group-at-2 c = search rules
 
-group-at-requires : tie.Need-group-at-requires
+group-at-requires : tie.Need-group_at-requires
 group-at-requires c κs =
     let f = c.before.before.before in
     let a = f.before.before.before in
-    (lent (pitch a) _ f.before.before.Numbers-of.ensures, (held-near (x a 0) (near a 0 (omega arith)), held-near (x a 3) (near a 3 (omega arith))))
+    (lent (pitch a) _ f.before.before.numbers_of-pitch.ensures, (held-near (x a 0) (near a 0 (omega arith)), held-near (x a 3) (near a 3 (omega arith))))
 
-slice-aggregate-group-at-2 : tie.Need-slice-aggregate-group-at-2
+slice-aggregate-group-at-2 : tie.Need-slice_bounds-group_at-end-2
 slice-aggregate-group-at-2 c = search rules
 
-array-copy-out-group-at-3 : tie.Need-array-copy-out-group-at-3
+array-copy-out-group-at-3 : tie.Need-bounds-state-1
 array-copy-out-group-at-3 c = search rules
 
-array-copy-out-group-at-4 : tie.Need-array-copy-out-group-at-4
+array-copy-out-group-at-4 : tie.Need-bounds-state-2
 array-copy-out-group-at-4 c = search rules
 
-group-at-requires-2 : tie.Need-group-at-requires-2
+group-at-requires-2 : tie.Need-group_at-requires-2
 group-at-requires-2 c κs =
     let f = c.before.before.before.before.before.before.before in
     let a = f.before.before.before in
-    (lent (aileron a) _ f.before.numbers-of2.ensures, (held-near (x a 1) (near a 1 (omega arith)), held-near (x a 2) (near a 2 (omega arith))))
+    (lent (aileron a) _ f.before.numbers_of-aileron.ensures, (held-near (x a 1) (near a 1 (omega arith)), held-near (x a 2) (near a 2 (omega arith))))
 
-slice-aggregate-group-at-3 : tie.Need-slice-aggregate-group-at-3
+slice-aggregate-group-at-3 : tie.Need-slice_bounds-group_at-end-3
 slice-aggregate-group-at-3 c = search rules
 
-array-copy-out-group-at-5 : tie.Need-array-copy-out-group-at-5
+array-copy-out-group-at-5 : tie.Need-bounds-state-1-2
 array-copy-out-group-at-5 c = search rules
 
-array-copy-out-group-at-6 : tie.Need-array-copy-out-group-at-6
+array-copy-out-group-at-6 : tie.Need-bounds-state-4
 array-copy-out-group-at-6 c = search rules
 
-group-at-requires-3 : tie.Need-group-at-requires-3
+group-at-requires-3 : tie.Need-group_at-requires-3
 group-at-requires-3 c κs =
     let f = c.before.before.before.before.before.before.before.before.before.before.before in
     let a = f.before.before.before in
-    (lent (rudder a) _ f.numbers-of3.ensures, (held-near (x a 1) (near a 1 (omega arith)), held-near (x a 4) (near a 4 (omega arith))))
+    (lent (rudder a) _ f.numbers_of-rudder.ensures, (held-near (x a 1) (near a 1 (omega arith)), held-near (x a 4) (near a 4 (omega arith))))
 
-add-result : tie.Need-overflow-add-result
+add-result : tie.Need-overflow_add-result
 add-result c = op-bits ◌+ℤ◌ (xi-is c) (zeta-is c) (sides c)
 
-add-result-2 : tie.Need-overflow-add-result-2
+add-result-2 : tie.Need-overflow_add-result-2
 add-result-2 c = op-bits ◌+ℤ◌ (pitch-is c) (op-back ◌+ℤ◌ (xi-is c) (zeta-is c) (sides c)) (all c)
 
 returns : tie.Need-returns
 returns c =
     let a = start c in
-    op-back ◌+ℤ◌ (pitch-is c) (op-back ◌+ℤ◌ (xi-is c) (zeta-is c) (sides c)) (all c) ∙ answer-is (coefficient_at (b a)) (x a) (n a) a.pre.1.0
+    op-back ◌+ℤ◌ (pitch-is c) (op-back ◌+ℤ◌ (xi-is c) (zeta-is c) (sides c)) (all c) ∙ answer-is (coefficient_at (b a)) (x a) (n a) a.requires.1.0
 
-pub coefficient-at-spec : {M : Type 1} → statement M
-coefficient-at-spec =
+pub coefficient_at_spec : {M : Type 1} → statement M
+coefficient_at_spec =
     tie.close
-    (tie.spec
-    mul-first
-    add-numbers-of
-    numbers-of-requires
-    add-numbers-of-2
-    numbers-of-requires-2
-    add-numbers-of-3
-    numbers-of-requires-3
-    slice-aggregate-group-at
-    array-copy-out-group-at
-    array-copy-out-group-at-2
-    group-at-requires
-    slice-aggregate-group-at-2
-    array-copy-out-group-at-3
-    array-copy-out-group-at-4
-    group-at-requires-2
-    slice-aggregate-group-at-3
-    array-copy-out-group-at-5
-    array-copy-out-group-at-6
-    group-at-requires-3
-    add-result
-    add-result-2
-    returns)
+    (tie.spec mul-first add-numbers-of numbers-of-requires add-numbers-of-2 numbers-of-requires-2 add-numbers-of-3 numbers-of-requires-3 slice-aggregate-group-at array-copy-out-group-at array-copy-out-group-at-2 group-at-requires slice-aggregate-group-at-2 array-copy-out-group-at-3 array-copy-out-group-at-4 group-at-requires-2 slice-aggregate-group-at-3 array-copy-out-group-at-5 array-copy-out-group-at-6 group-at-requires-3 add-result add-result-2 returns)

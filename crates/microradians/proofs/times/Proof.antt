@@ -1,11 +1,10 @@
 -- `microradians::times` meets its contract: the product fits with half of a radian's microradians on it. Assumes nothing.
 use mathlib.Core.Path.{◌≡◌, ◌∙◌, ap}
-use Prim.Native.Nat.{ℕ, ◌+◌, ◌*◌, ◌/◌, ◌^◌, ◌≤◌, ◌<◌}
+use Prim.Native.Nat.{◌*◌, ◌≤◌}
 use native.Mathlib.Nat as N
 use native.Mathlib.Omega.{arith}
-use borrow.Author.Rules.{rules, sfits_of}
-use lib.IntN.{ℤ, pos, nat_abs, ◌*ℤ◌}
-use lib.Signed.{◌<ℤ◌}
+use borrow.Author.Rules.{sfits_of}
+use lib.IntN.{ℤ, nat_abs, ◌*ℤ◌}
 use mir.Syntax.{w64}
 use mir.Val.{SFits, to_z, of_z}
 use mir.Facts.{to_z-of_z}
@@ -31,16 +30,16 @@ module _ (c : tie.Start) where
   product_is : to_z w64 (of_z w64 (to_z w64 (of_z w64 c.args.a) *ℤ to_z w64 (of_z w64 c.args.r))) ≡ z
   product_is = mul-back c.ranges.a c.ranges.r fits
 
-mul-product : tie.Need-overflow-mul-product
+mul-product : tie.Need-overflow_mul-product
 mul-product c = mul-bits c.ranges.a c.ranges.r (fits c)
 
-nearest-away-requires : tie.Need-nearest-away-requires
+nearest-away-requires : tie.Need-nearest_away-requires
 nearest-away-requires c κs = (lt_in (omega arith), omega (arith, small c, ap nat_abs (product_is c)))
 
 returns : tie.Need-returns
 returns c =
-    let f = c.nearest-away in
-    to_z-of_z (sfits_of {z = f.result} f.type-inv) ∙ f.ensures ∙ ap (nearest_away microradians.radian) (product_is c.before)
+    let f = c.nearest_away in
+    to_z-of_z {w = w64} (sfits_of {z = f.result} f.type_inv) ∙ f.ensures ∙ ap (nearest_away microradians.radian) (product_is c.before)
 
-pub times-spec : {M : Type 1} → statement M
-times-spec = tie.close (tie.spec mul-product nearest-away-requires returns)
+pub times_spec : {M : Type 1} → statement M
+times_spec = tie.close (tie.spec mul-product nearest-away-requires returns)
