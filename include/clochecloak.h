@@ -14,9 +14,8 @@
  *
  * Every function takes any arguments and gives back 0, or the number of a refusal. After a refusal the output holds what it
  * held before. The counts are counts of numbers, not of bytes. An array that is written may not overlap another. No function
- * allocates, or calls anything outside the archive, but that the two moves call memcpy, which the compiler makes of a loop;
- * README.md says how much stack a read takes. The code uses the red zone of 128 bytes below the stack pointer: an interrupt on the
- * same stack has to leave it alone.
+ * allocates, or calls anything outside the archive; README.md says how much stack a read takes. The code uses the red zone of 128
+ * bytes below the stack pointer: an interrupt on the same stack has to leave it alone.
  */
 #ifndef CLOCHECLOAK_H
 #define CLOCHECLOAK_H

@@ -15,7 +15,7 @@ use blocks::move_block;
 use layout::refusals::{
     BAD_LIMITS, DONE, LIMIT_PAST, MOVE_TOO_HEAVY, NO_VARIABLE, WRONG_OUTPUT, WRONG_TABLE,
 };
-use layout::{Model, REACHES_ROOM};
+use layout::{LIMITS_ROOM, Model, REACHES_ROOM};
 use limits::{Limits, MOST};
 use shifting::multiplied_out;
 use tables::soundness::soundness;
@@ -70,9 +70,12 @@ fn write_limits(limits: Limits, out: &mut [i64])
     let model = limits.model;
     let count = shapes::limits(model);
     let mut k: usize = 0;
-    while k < count {
-        let number = numbers[k];
-        out[k] = number;
+    while k < LIMITS_ROOM {
+        // of a loop that ends at `count` the compiler makes a call of memcpy, which not every host has
+        if k < count {
+            let number = numbers[k];
+            out[k] = number;
+        }
         k += 1;
     }
 }
