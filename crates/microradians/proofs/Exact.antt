@@ -11,14 +11,13 @@ use Prim.Native.Nat.{ℕ, suc, ◌+◌, ◌*◌, ◌^◌, ◌≤◌, ◌<◌}
 use native.Mathlib.Nat as N
 use native.Mathlib.Omega.{arith}
 use borrow.Author.Tests.{leb-true}
-use lib.Dec.{leb}
 use lib.IntN.{ℤ, pos, nat_abs, ◌+ℤ◌, ◌-ℤ◌, ◌*ℤ◌, +ℤ_idl}
 use lib.ListN.{get_or}
 use lib.Signed.{le_z}
 use Rattle.whole.proofs.Identity.{quote, quote-pos, by, ring2}
 use Rattle.whole.proofs.Magnitudes.{nat_abs-*}
 use Rattle.polynomials.specs.Numbers.{ints}
-use Rattle.polynomials.specs.Order.{powers, below, size, place}
+use Rattle.polynomials.specs.Order.{powers, size, place}
 use Rattle.polynomials.specs.Sum.{listed}
 use Rattle.polynomials.specs.Group.{number}
 use Rattle.polynomials.specs.Groups.{value_of, total}
@@ -30,8 +29,8 @@ use Rattle.polynomials.proofs.Places.{place-below, powers-place}
 use Rattle.polynomials.proofs.Downward.{downward-ext, downward-value}
 use Rattle.layout.specs.declared.Kind.{Kind}
 use Rattle.layout.specs.Shape.{InVariables, cumulus}
-use Rattle.layout.specs.Blocks.{Piece, low, high, piece, counts, keep, chosen}
-use Rattle.layout.specs.Limits.{every, cut}
+use Rattle.layout.specs.Blocks.{Piece, low, high, counts, keep, chosen}
+use Rattle.layout.specs.Limits.{cut}
 use Rattle.layout.specs.Refusals.{done}
 use Rattle.layout.specs.Reading.{piece_at}
 use Rattle.layout.specs.Sound.{reach}
@@ -48,16 +47,10 @@ use Rattle.microradians.specs.Fixed.{per_printed, in_fixed_point}
 use Rattle.microradians.specs.Answer.{fine_limits, answer_in, fine_number, fine_output}
 use Rattle.microradians.proofs.Answers.{number-given, within-reach, reach_near}
 use Rattle.microradians.proofs.Off.{M, Off, off-+, off_nil}
-use Rattle.microradians.proofs.Slack.{silent, slack, group_slack, exactly, downward-off, products, multiplications, counted}
+use Rattle.microradians.proofs.Followed.{printed_of, slack_of, slacks, slack_in, all-followed}
+use Rattle.microradians.proofs.Slack.{exactly, downward-off, products, multiplications, counted}
 
 -- ════ one group
-abbrev pub printed_of : Kind → Polynomial → ℕ → ℕ → ℤ
-printed_of k f p q = printed_at cumulus k f (place p q)
-
--- what it is off by at most, at reaches ρ
-abbrev pub slack_of : (ℕ → ℕ) → Kind → Polynomial → ℕ
-slack_of ρ k f = group_slack (printed_of k f) k.degree highest_degree (ρ k.u) (ρ k.v)
-
 module _ (k : Kind) (f : Polynomial) (x : ℕ → ℤ) (ρ : ℕ → ℕ) (d : k.degree ≤ highest_degree) (hu : nat_abs (x k.u) ≤ ρ k.u) (hv : nat_abs (x k.v) ≤ ρ k.v) where
   abbrev numbers : List ℤ
   numbers = (group cumulus (scale_in microradians) k f).numbers
@@ -82,12 +75,6 @@ abbrev pub Low : List Kind → Type 0
 Low [] = Unit
 Low (k ∷ ks) = (k.degree ≤ highest_degree) × Low ks
 
--- from the group numbered g on
-abbrev pub slacks : (ℕ → ℕ) → Piece → ℕ → List Kind → List Polynomial → ℕ
-slacks ρ p g [] fs = 0
-slacks ρ p g (k ∷ ks) [] = 0
-slacks ρ p g (k ∷ ks) (f ∷ fs) = cond (counts g p) (slack_of ρ k f) 0 + slacks ρ p (suc g) ks fs
-
 module _ (n : ℕ) (x : ℕ → ℤ) (ρ : ℕ → ℕ) (h : (i : ℕ) → i < n → nat_abs (x i) ≤ ρ i) (p : Piece) where
   kinds-off : (g : ℕ) (ks : List Kind) (fs : List Polynomial) → InVariables n ks → Low ks
       → Off (M ^ highest_degree) (slacks ρ p g ks fs) (together p g (by_kind (in_fixed_point x) ks fs)) (total (chosen p g (by_kind (group cumulus (scale_in microradians)) ks fs)) x)
@@ -103,9 +90,6 @@ module _ (n : ℕ) (x : ℕ → ℤ) (ρ : ℕ → ℕ) (h : (i : ℕ) → i < n
       next false o r = rw (+ℤ_idl (together p (suc g) (by_kind (in_fixed_point x) ks fs)), N.zero-add (slacks ρ p (suc g) ks fs)) r
 
 -- ════ a coefficient
-abbrev pub slack_in : Piece → Coefficient → ℕ
-slack_in p C = slacks (reach cumulus fine_limits p) p 0 cumulus.kinds (parts C)
-
 low-degrees : Low cumulus.kinds
 low-degrees = (omega arith, (omega arith, (omega arith, (omega arith, tt))))
 
@@ -115,10 +99,6 @@ answer-off x p C b h =
     rw (held-equation microradians x p C b) at (kinds-off cumulus.variables x (reach cumulus fine_limits p) h p 0 cumulus.kinds (parts C) (well-formed Cumulus).in-variables low-degrees)
 
 -- ════ by the reaches
-all-followed : every 2 (λ n. every cumulus.blocks (λ b. leb (slack_in (piece n) (coefficient_at b)) (2 * (691 * 10 ^ 22)))) ≡ true
-unfolding every silent slack powers below
-all-followed = refl
-
 pub followed : (p : Piece) (b : ℕ) → b < cumulus.blocks → slack_in p (coefficient_at b) ≤ 2 * (691 * 10 ^ 22)
 followed low b h = leb-true _ (2 * (691 * 10 ^ 22)) (every-all cumulus.blocks _ (every-all 2 _ all-followed 0 (omega arith)) b h)
 followed high b h = leb-true _ (2 * (691 * 10 ^ 22)) (every-all cumulus.blocks _ (every-all 2 _ all-followed 1 (omega arith)) b h)

@@ -4,6 +4,7 @@
 --   Answers  which number is given back, and what is left
 --   Off      how far a value in fixed point is off
 --   Slack    the same, followed through the sums from the highest power down
+--   Followed what that comes to at the envelope's reaches
 --   Exact    how far an answer is from the printed polynomials
 --   Whole    at 1000 times a state of whole milliradians
 --   Controls facts that show what the definitions say
@@ -12,6 +13,7 @@ pub mod Held
 pub mod Answers
 pub mod Off
 pub mod Slack
+pub mod Followed
 pub mod Exact
 pub mod Whole
 pub mod Controls
