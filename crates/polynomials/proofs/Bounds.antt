@@ -130,9 +130,9 @@ module _ (w : Variable) (s : ℤ) (l : List ℤ) where
   unfolding moved_number
   moved-bound p q j h = part-bound (length (sizes l)) (given ints w s l p q) (given nats w (nat_abs s) (sizes l) p q) (given-bound p q) j (omega (arith, length-map l nat_abs))
 
-  get_d_moved : (k : ℕ) → k < length l → get_or (moved w s l) k (pos 0) ≡ moved_number ints w s l (powers k).first (powers k).second
+  get_or-moved : (k : ℕ) → k < length l → get_or (moved w s l) k (pos 0) ≡ moved_number ints w s l (powers k).first (powers k).second
   unfolding replaced
-  get_d_moved k h = get_or-listed (length l) _ k (pos 0) h
+  get_or-moved k h = get_or-listed (length l) _ k (pos 0) h
 
   get_or-replaced : (k : ℕ) → k < length l → get_or (replaced nats w (nat_abs s) (sizes l)) k 0 ≡ moved_number nats w (nat_abs s) (sizes l) (powers k).first (powers k).second
   unfolding replaced
@@ -158,7 +158,7 @@ module _ (w : Variable) (s : ℤ) (l : List ℤ) where
       where
         each : (k : ℕ) → k < length l → get_or (sizes (moved w s l)) k 0 ≤ get_or (replaced nats w (nat_abs s) (sizes l)) k 0
         each k h =
-            rw (get_or-sizes (moved w s l) k, get_d_moved k h, get_or-replaced k h) (moved-bound (powers k).first (powers k).second (length l) (N.le_refl (length l)))
+            rw (get_or-sizes (moved w s l) k, get_or-moved k h, get_or-replaced k h) (moved-bound (powers k).first (powers k).second (length l) (N.le_refl (length l)))
 
     module _ (hr : 1 ≤ r) (ht : 1 ≤ t) (p q : ℕ) (h : place p q < length l) where
       moved-weight : moved_number nats w (nat_abs s) (sizes l) p q ≤ longer_weight
