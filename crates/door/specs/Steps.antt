@@ -2,13 +2,13 @@
 use Rattle.std.specs.Prelude.{Bool, true, false, List, ℕ, ◌+◌, ℤ, pos, get_or, Float}
 use Rattle.std.specs.Float.{fin}
 use Rattle.layout.specs.Shape.{Shape}
-use Rattle.layout.specs.Refusals.{done, outside}
+use Rattle.layout.specs.Refusals.{done, outside, not_finite_number}
 use Rattle.rounding.specs.declared.Step.{Step}
 use Rattle.rounding.specs.declared.Step.TheVariants.{Whole, NotFinite, Outside}
 
 -- the float of variable i is not finite: 21 for alpha, 22 for beta, 23 for xi, 24 for eta and 25 for zeta
 abbrev pub not_finite : Shape → ℕ → ℕ
-not_finite S i = 21 + S.name i
+not_finite S i = not_finite_number (S.name i)
 
 abbrev pub positive_zero : Float
 positive_zero = fin false 0 (pos 0)
