@@ -5,9 +5,9 @@ ghost use Rattle.std.specs.Prelude.{◌≡◌, ◌≤◌, ◌<◌, length};
 ghost use Rattle.polynomials.specs.Limits.{highest_degree};
 ghost use Rattle.polynomials.specs.Order.{size};
 ghost use Rattle.layout.specs.Shape.{shape, kind_at, fine_cuts, limits_length, block_length, block_start, table_length, cumulus, gtm};
-ghost use Rattle.layout.specs.Refusals.{outside};
+ghost use Rattle.layout.specs.Refusals.{place, refusal_number, outside};
 
-use layout::refusals::OUTSIDE;
+use layout::refusals::{Angle, Refused};
 use layout::{Kind, Model, cumulus_one, gtm_longitudinal};
 
 // How many variables there are.
@@ -95,15 +95,27 @@ pub fn start(model: Model, index: usize) -> usize
     limits(model) + block(model) * index
 }
 
-// The refusal of a reading of a variable that is outside its limits.
-pub fn outside(model: Model, variable: usize) -> u64
+// Which angle a variable is.
+pub fn angle(model: Model, variable: usize) -> Angle
     requires { variable < (shape model).variables }
-    ensures { result ≡ outside (shape model) variable }
+    ensures { place result ≡ (shape model).name variable }
 {
-    match model {
-        Model::Cumulus => OUTSIDE + variable as u64,
-        Model::Gtm => OUTSIDE + 3 * variable as u64,
+    match (model, variable) {
+        (_, 0) => Angle::Alpha,
+        (Model::Gtm, _) => Angle::Eta,
+        (_, 1) => Angle::Beta,
+        (_, 2) => Angle::Xi,
+        (_, 3) => Angle::Eta,
+        _ => Angle::Zeta,
     }
+}
+
+// The refusal of a reading of a variable that is outside its limits.
+pub fn outside(model: Model, variable: usize) -> Refused
+    requires { variable < (shape model).variables }
+    ensures { refusal_number result ≡ outside (shape model) variable }
+{
+    Refused::Outside(angle(model, variable))
 }
 
 // How many numbers a group of a kind has: of degree 0, 1 and so on, one more for each.
