@@ -10,12 +10,12 @@ ghost use Rattle.layout.specs.Limits.{lowest, highest, cut, fine_cut, is_fine_cu
 ghost use Rattle.layout.specs.Blocks.{piece as piece_of};
 ghost use Rattle.layout.specs.Sound.{span, reach};
 ghost use Rattle.layout.specs.Reaches.{listed_reaches};
-ghost use Rattle.layout.specs.Refusals.{outside, first, ◌when◌};
+ghost use Rattle.layout.specs.Refusals.{outside, given_back, first, ◌when◌};
 ghost use Rattle.layout.specs.Reading.{readings, inside};
 ghost use Rattle.layout.specs.Moving.{owner, shift_at, moved_limit};
 ghost use Rattle.limits.specs.Good.{variable_good, first_good, others_good};
 
-use layout::refusals::DONE;
+use layout::refusals::Refused;
 use layout::{LIMITS_ROOM, Model, REACHES_ROOM, VARIABLES_ROOM};
 
 // The greatest limit that is in range, and the least.
@@ -300,24 +300,22 @@ impl Limits {
         (self.lowest(variable) <= x) & (x <= self.highest(variable))
     }
 
-    // The refusal of the first reading outside its limits; 0 where all are inside.
-    pub fn outside(self, state: &[i64]) -> u64
+    // Refuses the first reading outside its limits.
+    pub fn outside(self, state: &[i64]) -> Result<(), Refused>
         requires { (shape self.model).variables ≤ length state.now }
-        ensures { result ≡ first (listed (shape self.model).variables (λ i. outside (shape self.model) i when not (inside (shape self.model) self.numbers (readings state.now) i))) }
+        ensures { given_back result ≡ first (listed (shape self.model).variables (λ i. outside (shape self.model) i when not (inside (shape self.model) self.numbers (readings state.now) i))) }
     {
         let model = self.model;
-        let mut i: usize = 0;
-        while i < VARIABLES_ROOM {
+        for i in 0..VARIABLES_ROOM {
             if i >= shapes::variables(model) {
-                return DONE;
+                return Ok(());
             }
             let reading = state[i];
             if !self.inside(i, reading) {
-                return shapes::outside(model, i);
+                return Err(shapes::outside(model, i));
             }
-            i += 1;
         }
-        DONE
+        Ok(())
     }
 
     // The fine cut of variable 0, where the model has one.
