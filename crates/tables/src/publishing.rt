@@ -1,18 +1,19 @@
 // Publishing a table.
 ghost use Rattle.std.specs.Prelude.{◌≡◌};
 ghost use Rattle.layout.specs.Publishing.{publish_number, publish_output};
+ghost use Rattle.layout.specs.Refusals.{given_back};
 
 use blocks::copy;
-use layout::refusals::{DONE, WRONG_OUTPUT};
+use layout::refusals::Refused;
 
 // Writes a table to `out`, or refuses where `out` has another length and leaves it as it was.
-pub fn publish(table: &[i64], out: &mut [i64]) -> u64
-    ensures number { result ≡ publish_number table.now out.old }
+pub fn publish(table: &[i64], out: &mut [i64]) -> Result<(), Refused>
+    ensures number { given_back result ≡ publish_number table.now out.old }
     ensures output { out.new ≡ publish_output table.now out.old }
 {
     if out.len() != table.len() {
-        return WRONG_OUTPUT;
+        return Err(Refused::WrongOutput);
     }
     copy(table, out);
-    DONE
+    Ok(())
 }
