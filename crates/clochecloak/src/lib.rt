@@ -13,12 +13,13 @@ ghost use Rattle.microradians.specs.Answer.{fine_number, fine_output};
 ghost use Rattle.door.specs.Door.{floats, door_answer};
 
 use door::Answer;
+use layout::refusals::given_back;
 
 pub fn clochecloak_publish(out: &mut [i64]) -> u64
     ensures number { result ≡ publish_number published out.old }
     ensures output { out.new ≡ publish_output published out.old }
 {
-    cumulus::publish(out)
+    given_back(cumulus::publish(out))
 }
 
 pub fn clochecloak_read(
@@ -34,7 +35,7 @@ pub fn clochecloak_read(
     ensures output { out.new ≡ read_output cumulus table.now (readings (alpha ∷ beta ∷ xi ∷ eta ∷ zeta ∷ [])) out.old }
 {
     let state = [alpha, beta, xi, eta, zeta];
-    cumulus::read(table, state, out)
+    given_back(cumulus::read(table, state, out))
 }
 
 pub fn clochecloak_read_many(
@@ -47,7 +48,7 @@ pub fn clochecloak_read_many(
     ensures numbers { numbers.new ≡ many_numbers cumulus table.now states.now numbers.old out.old }
     ensures output { out.new ≡ many_output cumulus table.now states.now numbers.old out.old }
 {
-    cumulus::read_many(table, states, numbers, out)
+    given_back(cumulus::read_many(table, states, numbers, out))
 }
 
 pub fn clochecloak_read_microradians(
@@ -61,14 +62,14 @@ pub fn clochecloak_read_microradians(
     ensures number { result ≡ fine_number (readings (alpha ∷ beta ∷ xi ∷ eta ∷ zeta ∷ [])) out.old }
     ensures output { out.new ≡ fine_output (readings (alpha ∷ beta ∷ xi ∷ eta ∷ zeta ∷ [])) out.old }
 {
-    microradians::read([alpha, beta, xi, eta, zeta], out)
+    given_back(microradians::read([alpha, beta, xi, eta, zeta], out))
 }
 
 pub fn clochecloak_move(table: &[i64], variable: usize, shift: i64, out: &mut [i64]) -> u64
     ensures number { result ≡ move_number cumulus table.now variable shift out.old }
     ensures output { out.new ≡ move_output cumulus table.now variable shift out.old }
 {
-    cumulus::move_datum(table, variable, shift, out)
+    given_back(cumulus::move_datum(table, variable, shift, out))
 }
 
 pub fn clochecloak_read_floats(
@@ -90,19 +91,19 @@ pub fn clochecloak_gtm_publish(out: &mut [i64]) -> u64
     ensures number { result ≡ publish_number gtm_published out.old }
     ensures output { out.new ≡ publish_output gtm_published out.old }
 {
-    gtm::publish(out)
+    given_back(gtm::publish(out))
 }
 
 pub fn clochecloak_gtm_read(table: &[i64], alpha: i64, eta: i64, out: &mut [i64]) -> u64
     ensures number { result ≡ read_number gtm table.now (readings (alpha ∷ eta ∷ [])) out.old }
     ensures output { out.new ≡ read_output gtm table.now (readings (alpha ∷ eta ∷ [])) out.old }
 {
-    gtm::read(table, [alpha, eta], out)
+    given_back(gtm::read(table, [alpha, eta], out))
 }
 
 pub fn clochecloak_gtm_move(table: &[i64], variable: usize, shift: i64, out: &mut [i64]) -> u64
     ensures number { result ≡ move_number gtm table.now variable shift out.old }
     ensures output { out.new ≡ move_output gtm table.now variable shift out.old }
 {
-    gtm::move_datum(table, variable, shift, out)
+    given_back(gtm::move_datum(table, variable, shift, out))
 }

@@ -19,7 +19,10 @@ use Rattle.layout.specs.Limits.{every, longest_shift, all_in_range, good}
 use Rattle.layout.specs.Blocks.{low, high, block, groups, laid_out, chosen, coefficient}
 use Rattle.layout.specs.Sound.{reach, within_cap, light, sound, SoundTable}
 use Rattle.layout.specs.Reaches.{listed_reaches, reaches_of}
-use Rattle.layout.specs.Refusals.{outside, first}
+use Rattle.std.specs.Prelude.{Ok, Err}
+use Rattle.layout.specs.declared.refusals.Angle.TheVariants.{Alpha, Beta, Xi, Eta, Zeta}
+use Rattle.layout.specs.declared.refusals.Refused.TheVariants.{WrongTable, WrongOutput, BadLimits, TooHeavy, NoVariable, LimitPast, MoveTooHeavy, Outside, NotFinite}
+use Rattle.layout.specs.Refusals.{outside, place, given_back, first}
 use Rattle.layout.specs.Publishing.{publish_number, publish_output}
 use Rattle.layout.specs.Reading.{readings, inside, values, read_number, read_output}
 use Rattle.layout.specs.Moving.{owner, joined, moved_limit, moved_limits, moved_block, moved_table, moved_state, move_light, move_number, move_output}
@@ -41,6 +44,18 @@ rooms = refl
 refused-by : listed 5 (outside cumulus) ≡ 11 ∷ 12 ∷ 13 ∷ 14 ∷ 15 ∷ []
 unfolding listed
 refused-by = refl
+
+refused-by-gtm : listed 2 (outside gtm) ≡ 11 ∷ 14 ∷ []
+unfolding listed
+refused-by-gtm = refl
+
+angles-numbered : map place (Alpha ∷ Beta ∷ Xi ∷ Eta ∷ Zeta ∷ []) ≡ 0 ∷ 1 ∷ 2 ∷ 3 ∷ 4 ∷ []
+angles-numbered = refl
+
+-- an outcome of every kind
+refusals-numbered : map given_back (Ok tt ∷ map Err (WrongTable ∷ WrongOutput ∷ BadLimits ∷ TooHeavy ∷ NoVariable ∷ LimitPast ∷ MoveTooHeavy ∷ Outside Alpha ∷ Outside Zeta ∷ NotFinite Alpha ∷ NotFinite Zeta ∷ []))
+    ≡ 0 ∷ 1 ∷ 2 ∷ 3 ∷ 4 ∷ 5 ∷ 6 ∷ 7 ∷ 11 ∷ 15 ∷ 21 ∷ 25 ∷ []
+refusals-numbered = refl
 
 starts : map (block_start cumulus) (0 ∷ 1 ∷ 2 ∷ 3 ∷ 4 ∷ 5 ∷ []) ≡ 12 ∷ 62 ∷ 112 ∷ 162 ∷ 212 ∷ 262 ∷ []
 unfolding kinds_length below

@@ -6,12 +6,13 @@ ghost use Rattle.polynomials.specs.Sum.{listed};
 ghost use Rattle.layout.specs.Shape.{shape};
 ghost use Rattle.layout.specs.Numbers.{variables_room};
 ghost use Rattle.layout.specs.Reading.{readings, read_number, read_output};
+ghost use Rattle.layout.specs.Refusals.{given_back};
 ghost use Rattle.layout.specs.Moving.{joined};
 ghost use Rattle.layout.specs.Many.{zeros, number_at, output_at, many_number, many_numbers, many_output};
 ghost use Rattle.tables.specs.Ready.{SoundRead};
 ghost use Rattle.states.specs.Ready.{SoundReads};
 
-use layout::refusals::{DONE, WRONG_OUTPUT, WRONG_TABLE};
+use layout::refusals::{Refused, given_back};
 use layout::{Model, VARIABLES_ROOM};
 use tables::reading::read_sound;
 use tables::soundness::soundness;
@@ -59,9 +60,14 @@ fn held(state: &[i64]) -> [i64; VARIABLES_ROOM]
 }
 
 // Reads one state of a sound table into zeros.
-fn read_cleared(model: Model, table: &[i64], state: [i64; VARIABLES_ROOM], out: &mut [i64]) -> u64
+fn read_cleared(
+    model: Model,
+    table: &[i64],
+    state: [i64; VARIABLES_ROOM],
+    out: &mut [i64],
+) -> Result<(), Refused>
     requires { SoundRead (shape model) table.now out.old }
-    ensures number { result ≡ read_number (shape model) table.now (readings state) (zeros (shape model)) }
+    ensures number { given_back result ≡ read_number (shape model) table.now (readings state) (zeros (shape model)) }
     ensures output { out.new ≡ read_output (shape model) table.now (readings state) (zeros (shape model)) }
 {
     clear(out);
@@ -83,8 +89,7 @@ fn read_each(model: Model, table: &[i64], states: &[i64], numbers: &mut [u64], o
         let to = from + variables;
         let end = at + blocks;
         let state = held(&states[from..to]);
-        let number = read_cleared(model, table, state, &mut out[at..end]);
-        numbers[k] = number;
+        numbers[k] = given_back(read_cleared(model, table, state, &mut out[at..end]));
         from = to;
         at = end;
         k += 1;
@@ -99,25 +104,22 @@ pub fn read_many(
     states: &[i64],
     numbers: &mut [u64],
     out: &mut [i64],
-) -> u64
-    ensures number { result ≡ many_number (shape model) table.now states.now numbers.old out.old }
+) -> Result<(), Refused>
+    ensures number { given_back result ≡ many_number (shape model) table.now states.now numbers.old out.old }
     ensures numbers { numbers.new ≡ many_numbers (shape model) table.now states.now numbers.old out.old }
     ensures output { out.new ≡ many_output (shape model) table.now states.now numbers.old out.old }
 {
     if table.len() != shapes::table(model) {
-        return WRONG_TABLE;
+        return Err(Refused::WrongTable);
     }
     let n = numbers.len();
     if !fits(states.len(), shapes::variables(model), n) {
-        return WRONG_OUTPUT;
+        return Err(Refused::WrongOutput);
     }
     if !fits(out.len(), shapes::blocks(model), n) {
-        return WRONG_OUTPUT;
+        return Err(Refused::WrongOutput);
     }
-    let unsound = soundness(model, table);
-    if unsound != DONE {
-        return unsound;
-    }
+    soundness(model, table)?;
     read_each(model, table, states, numbers, out);
-    DONE
+    Ok(())
 }

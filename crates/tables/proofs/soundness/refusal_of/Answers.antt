@@ -10,5 +10,5 @@ use Rattle.tables.proofs.soundness.refusal_of.Goals as goal
 pub returns-then-table : goal.returns-then-table
 returns-then-table c = sym (first-hit wrong_table _ (ne_eqb _ _ (λ e. c.if-table.true (e ∙ sym c.table.ensures))))
 
-pub returns : goal.returns
-returns c = c.soundness.ensures ∙ known-whole (shape c.args.model) c.args.table.now (c.if-table.false ∙ c.table.ensures)
+pub returns-else-table : goal.returns-else-table
+returns-else-table c = c.soundness.ensures ∙ known-whole (shape c.args.model) c.args.table.now (c.if-table.false ∙ c.table.ensures)
