@@ -17,6 +17,7 @@ ghost use Rattle.limits.specs.Good.{variable_good, first_good, others_good};
 
 use layout::refusals::Refused;
 use layout::{LIMITS_ROOM, Model, REACHES_ROOM, VARIABLES_ROOM};
+use std::array;
 
 // The greatest limit that is in range, and the least.
 pub const MOST: i64 = 2000;
@@ -43,23 +44,11 @@ pub struct Limits {
     pub numbers: [i64; LIMITS_ROOM],
 }
 
-// The larger of two magnitudes.
-fn larger(m: u64, n: u64) -> u64
-    ensures { result ≡ max m n }
-{
-    if m < n {
-        return n;
-    }
-    m
-}
-
 // The largest of 1 and the magnitudes of two limits.
 fn span(a: i64, b: i64) -> u64
     ensures { result ≡ span a b }
 {
-    let m = whole::magnitude(a);
-    let n = whole::magnitude(b);
-    larger(1, larger(m, n))
+    a.unsigned_abs().max(b.unsigned_abs()).max(1)
 }
 
 impl Limits {
@@ -68,17 +57,8 @@ impl Limits {
         requires { limits_room ≤ length table.now }
         ensures { (result.model ≡ model) × (result.numbers ≡ take limits_room table.now) }
     {
-        let mut numbers: [i64; LIMITS_ROOM] = [0; LIMITS_ROOM];
-        let mut k: usize = 0;
-        while k < LIMITS_ROOM {
-            let number = table[k];
-            numbers[k] = number;
-            k += 1;
-        }
-        Limits {
-            model: model,
-            numbers: numbers,
-        }
+        let numbers = *table.first_chunk().unwrap();
+        Limits { model, numbers }
     }
 
     // The limit at a place.
@@ -86,8 +66,7 @@ impl Limits {
         requires { place < limits_room }
         ensures { result ≡ get_or self.numbers place (pos 0) }
     {
-        let numbers = self.numbers;
-        numbers[place]
+        self.numbers[place]
     }
 
     // Where the limits of a variable stand that is not the first: its lowest, then its highest.
@@ -95,8 +74,7 @@ impl Limits {
         requires { (0 < variable) × (variable < variables_room) }
         ensures { result ≡ lowest_place (shape self.model) variable }
     {
-        let model = self.model;
-        2 * variable + 1 + shapes::fine_cuts(model)
+        2 * variable + 1 + shapes::fine_cuts(self.model)
     }
 
     // The lowest reading of a variable.
@@ -125,34 +103,28 @@ impl Limits {
     fn is_fine_cut(self, place: usize) -> bool
         ensures { result ≡ is_fine_cut (shape self.model) place }
     {
-        let model = self.model;
-        shapes::has_fine_cut(model) & (place == FINE_CUT)
+        shapes::has_fine_cut(self.model) && place == FINE_CUT
     }
 
     // The variable that the limit at a place belongs to: variable 0 up to the cut and for as many more as it has fine cuts, then two places for each.
     fn owner(self, place: usize) -> usize
         ensures { result ≡ owner (shape self.model) place }
     {
-        let model = self.model;
-        let before = CUT + shapes::fine_cuts(model);
+        let before = CUT + shapes::fine_cuts(self.model);
         if place <= before {
             return 0;
         }
         (place - before) / 2
     }
 
-    // Whether the limits of a variable are in range and in order, or the model has no such variable.
+    // Whether the limits of a variable are in range and in order.
     fn variable_good(self, variable: usize) -> bool
         requires { variable < variables_room }
-        ensures { result ≡ cond (ltb variable (shape self.model).variables) (variable_good (shape self.model) self.numbers variable) true }
+        ensures { result ≡ variable_good (shape self.model) self.numbers variable }
     {
-        let model = self.model;
-        if variable >= shapes::variables(model) {
-            return true;
-        }
         let lowest = self.lowest(variable);
         let highest = self.highest(variable);
-        (LEAST <= lowest) & (lowest <= highest) & (highest <= MOST)
+        LEAST <= lowest && lowest <= highest && highest <= MOST
     }
 
     // The same of variable 0, whose cut leaves it a low and a high piece: it lies between the ends, and is in range with them.
@@ -162,21 +134,15 @@ impl Limits {
         let lowest = self.lowest(0);
         let cut = self.at(CUT);
         let highest = self.highest(0);
-        (LEAST <= lowest) & (lowest <= cut) & (cut < highest) & (highest <= MOST)
+        LEAST <= lowest && lowest <= cut && cut < highest && highest <= MOST
     }
 
     // The same of every variable but the first.
     fn others_good(self) -> bool
         ensures { result ≡ others_good (shape self.model) self.numbers }
     {
-        let mut variable: usize = 1;
-        while variable < VARIABLES_ROOM {
-            if !self.variable_good(variable) {
-                return false;
-            }
-            variable += 1;
-        }
-        true
+        (1..VARIABLES_ROOM).all(|variable| variable >= shapes::variables(self.model)
+            || self.variable_good(variable))
     }
 
     // Whether the cut is the fine cut divided by 1000 and rounded down.
@@ -184,26 +150,19 @@ impl Limits {
         requires { all_in_range (shape self.model) self.numbers ≡ true }
         ensures { result ≡ cuts_agree (shape self.model) self.numbers }
     {
-        let model = self.model;
-        if !shapes::has_fine_cut(model) {
+        if !shapes::has_fine_cut(self.model) {
             return true;
         }
         let from = THOUSAND * self.at(CUT);
         let fine = self.at(FINE_CUT);
-        (from <= fine) & (fine < from + THOUSAND)
+        from <= fine && fine < from + THOUSAND
     }
 
     // Whether the limits of every variable are in range and in order, and the two cuts agree.
     pub fn good(self) -> bool
         ensures { result ≡ good (shape self.model) self.numbers }
     {
-        if !self.first_good() {
-            return false;
-        }
-        if !self.others_good() {
-            return false;
-        }
-        self.cuts_agree()
+        self.first_good() && self.others_good() && self.cuts_agree()
     }
 
     // A shift as it counts at a place: in thousandths at the fine cut.
@@ -234,17 +193,9 @@ impl Limits {
         requires { (good (shape self.model) self.numbers ≡ true) × ((nat_abs shift ≤ longest_shift) × (variable < (shape self.model).variables)) }
         ensures { (result.model ≡ self.model) × (result.numbers ≡ listed limits_room (moved_limit (shape self.model) variable shift self.numbers)) }
     {
-        let model = self.model;
-        let mut numbers: [i64; LIMITS_ROOM] = [0; LIMITS_ROOM];
-        let mut k: usize = 0;
-        while k < LIMITS_ROOM {
-            let number = self.moved_limit(variable, shift, k);
-            numbers[k] = number;
-            k += 1;
-        }
         Limits {
-            model: model,
-            numbers: numbers,
+            model: self.model,
+            numbers: array::from_fn(|place| self.moved_limit(variable, shift, place)),
         }
     }
 
@@ -266,15 +217,12 @@ impl Limits {
         requires { (all_in_range (shape self.model) self.numbers ≡ true) × (variable < variables_room) }
         ensures { result ≡ reach (shape self.model) self.numbers (piece_of piece) variable }
     {
-        if variable == 0 {
-            let model = self.model;
-            let fine = shapes::has_fine_cut(model);
-            if piece == 0 {
-                return span(self.lowest(0), self.cut_or_next(fine));
-            }
-            return span(self.cut_or_next(!fine), self.highest(0));
+        let fine = shapes::has_fine_cut(self.model);
+        match (variable, piece) {
+            (0, LOW) => span(self.lowest(0), self.cut_or_next(fine)),
+            (0, _) => span(self.cut_or_next(!fine), self.highest(0)),
+            _ => span(self.lowest(variable), self.highest(variable)),
         }
-        span(self.lowest(variable), self.highest(variable))
     }
 
     // The reaches: that of variable 0 in the low piece, then those of every variable in the high piece.
@@ -283,12 +231,12 @@ impl Limits {
         ensures { result ≡ listed_reaches (reach (shape self.model) self.numbers) }
     {
         [
-            self.reach(0, 0),
-            self.reach(1, 0),
-            self.reach(1, 1),
-            self.reach(1, 2),
-            self.reach(1, 3),
-            self.reach(1, 4),
+            self.reach(LOW, 0),
+            self.reach(HIGH, 0),
+            self.reach(HIGH, 1),
+            self.reach(HIGH, 2),
+            self.reach(HIGH, 3),
+            self.reach(HIGH, 4),
         ]
     }
 
@@ -297,7 +245,7 @@ impl Limits {
         requires { variable < variables_room }
         ensures { result ≡ (le_z (lowest (shape self.model) self.numbers variable) x && le_z x (highest (shape self.model) self.numbers variable)) }
     {
-        (self.lowest(variable) <= x) & (x <= self.highest(variable))
+        self.lowest(variable) <= x && x <= self.highest(variable)
     }
 
     // Refuses the first reading outside its limits.
@@ -305,14 +253,9 @@ impl Limits {
         requires { (shape self.model).variables ≤ length state.now }
         ensures { given_back result ≡ first (listed (shape self.model).variables (λ i. outside (shape self.model) i when not (inside (shape self.model) self.numbers (readings state.now) i))) }
     {
-        let model = self.model;
-        for i in 0..VARIABLES_ROOM {
-            if i >= shapes::variables(model) {
-                return Ok(());
-            }
-            let reading = state[i];
-            if !self.inside(i, reading) {
-                return Err(shapes::outside(model, i));
+        for variable in 0..VARIABLES_ROOM {
+            if variable < shapes::variables(self.model) && !self.inside(variable, state[variable]) {
+                return Err(shapes::outside(self.model, variable));
             }
         }
         Ok(())
