@@ -14,6 +14,7 @@ ghost use Rattle.polynomials.specs.declared.Variable.TheVariants.{First, Second}
 use polynomials::Variable;
 
 // The powers 0 to 4 of v + s multiplied out, a row for each: at p of row k what stands before v^p. The shift s needs no field: the rows tell it.
+#[derive(Clone, Copy)]
 pub struct Rows {
     pub numbers: [[i64; 5]; 5],
     pub ghost of_a_shift: { numbers ≡ multiplied_rows (shift_in numbers) },
