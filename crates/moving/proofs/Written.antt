@@ -25,7 +25,7 @@ use Rattle.laws.proofs.Reaches.{reach-one}
 use Rattle.laws.proofs.Weights.{within_cap-fact}
 use Rattle.laws.proofs.SoundMoved.{move-within}
 use Rattle.blocks.specs.Ready.{placed, shift_reach, Shiftable}
-use Rattle.blocks.proofs.Filled.{length-placed, take-placed}
+use Rattle.blocks.proofs.Filled.{take-placed}
 use Rattle.blocks.proofs.BlockMoves.{each_light}
 
 pub count-is : (a n : ℕ) → a + n - a ≡ n
@@ -74,7 +74,7 @@ module _ (S : Shape) (t : List ℤ) (i : ℕ) (s : ℤ) where
     abbrev pub Put : ℕ → ℕ → Type 0
     Put f c =
         m ≡ moved_block S i s (take (f + c - f) (drop f t))
-        → (b + 1 ≤ S.blocks) × (length (put_mid f (f + c - f) out m) ≡ table_length S) × (take (block_start S (b + 1)) (put_mid f (f + c - f) out m) ≡ written (b + 1))
+        → take (block_start S (b + 1)) (put_mid f (f + c - f) out m) ≡ written (b + 1)
 
     put-at : Put (block_start S b) (block_length S)
     unfolding written joined
@@ -87,12 +87,9 @@ module _ (S : Shape) (t : List ℤ) (i : ℕ) (s : ℤ) where
         let count : length m ≡ from + size - from = ap length m-is ∙ length-moved_block S i s (block S t b) (length-block S t w b h) ∙ sym (count-is from size) in
         let p : put_mid from (from + size - from) out m ≡ placed out from (from + size) m =
         ap (λ r. take from out ++ (m ++ r)) (drop-drop (from + size - from) from out ∙ ap (λ k. drop (from + k) out) (count-is from size))
-        in (
-          omega arith,
-          ap length p ∙ length-placed out from (from + size) m before room count ∙ n,
-          ap₂ take (next b) p ∙ take-placed out from (from + size) m before room count _ e
-              ∙ ap (λ l. written b ++ l) m-is ∙ append_assoc (moved_limits S i s t) (joined b moved) (moved b) ∙ ap written (sym (add-one b)),
-        )
+        in
+        ap₂ take (next b) p ∙ take-placed out from (from + size) m before room count _ e
+        ∙ ap (λ l. written b ++ l) m-is ∙ append_assoc (moved_limits S i s t) (joined b moved) (moved b) ∙ ap written (sym (add-one b))
       where
         moved : ℕ → List ℤ
         moved b = moved_block S i s (block S t b)

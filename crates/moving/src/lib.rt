@@ -24,41 +24,17 @@ use weights::within_cap;
 // No shift from one limit in range to another is longer.
 const LONGEST: u64 = (MOST + MOST) as u64;
 
-// The variable that the reach at a place of the list belongs to: variable 0 has two, and each other one.
-fn owner(place: usize) -> usize
-    ensures { result ≡ place - 1 }
-{
-    if place == 0 {
-        return 0;
-    }
-    place - 1
-}
-
-// The reach at a place of the list, longer by `more` where it is the variable's.
-fn longer_at(reaches: [u64; REACHES_ROOM], place: usize, variable: usize, more: u64) -> u64
-    requires { (place < reaches_room) × (place - 1 ≡ variable → get_or reaches place 0 + more < 2 ^ 64) }
-    ensures { result ≡ longer_at reaches variable more place }
-{
-    let reach = reaches[place];
-    if owner(place) == variable {
-        return reach + more;
-    }
-    reach
-}
-
-// The reaches with each of one variable longer by `more`.
-fn longer(reaches: [u64; REACHES_ROOM], variable: usize, more: u64) -> [u64; REACHES_ROOM]
+// The reaches with each of one variable longer by `more`: variable 0 has the first two, and each other one.
+fn longer(mut reaches: [u64; REACHES_ROOM], variable: usize, more: u64) -> [u64; REACHES_ROOM]
     requires { Lengthened reaches variable more }
     ensures { result ≡ listed reaches_room (longer_at reaches variable more) }
 {
-    let mut longer: [u64; REACHES_ROOM] = [0; REACHES_ROOM];
-    let mut k: usize = 0;
-    while k < REACHES_ROOM {
-        let reach = longer_at(reaches, k, variable, more);
-        longer[k] = reach;
-        k += 1;
+    for place in 0..REACHES_ROOM {
+        if place.saturating_sub(1) == variable {
+            reaches[place] += more;
+        }
     }
-    longer
+    reaches
 }
 
 // The limits, written where an output has them.
@@ -66,17 +42,12 @@ fn write_limits(limits: Limits, out: &mut [i64])
     requires { (length limits.numbers ≡ limits_room) × (limits_room ≤ length out.old) }
     ensures { out.new ≡ take (limits_length (shape limits.model)) limits.numbers ++ drop (limits_length (shape limits.model)) out.old }
 {
-    let numbers = limits.numbers;
-    let model = limits.model;
-    let count = shapes::limits(model);
-    let mut k: usize = 0;
-    while k < LIMITS_ROOM {
-        // of a loop that ends at `count` the compiler makes a call of memcpy, which not every host has
+    let count = shapes::limits(limits.model);
+    // of a loop that ends at `count` the compiler makes a call of memcpy, which not every host has
+    for k in 0..LIMITS_ROOM {
         if k < count {
-            let number = numbers[k];
-            out[k] = number;
+            out[k] = limits.numbers[k];
         }
-        k += 1;
     }
 }
 
@@ -89,7 +60,7 @@ fn refusal(model: Model, table: &[i64], moved: Limits, variable: usize, shift: i
     if !moved.good() {
         return LIMIT_PAST;
     }
-    let reaches = longer(moved.reaches(), variable, whole::magnitude(shift));
+    let reaches = longer(moved.reaches(), variable, shift.unsigned_abs());
     if within_cap(model, table, reaches) {
         return DONE;
     }
@@ -123,9 +94,7 @@ fn write_moved(
     write_limits(moved, out);
     let rows = multiplied_out(shift);
     let size = shapes::block(model);
-    let blocks = shapes::blocks(model);
-    let mut block: usize = 0;
-    while block < blocks {
+    for block in 0..shapes::blocks(model) {
         let start = shapes::start(model, block);
         let end = start + size;
         move_block(
@@ -135,7 +104,6 @@ fn write_moved(
             variable,
             &rows,
         );
-        block += 1;
     }
 }
 
@@ -150,7 +118,7 @@ fn move_whole(model: Model, table: &[i64], variable: usize, shift: i64, out: &mu
     if !limits.good() {
         return BAD_LIMITS;
     }
-    if whole::magnitude(shift) > LONGEST {
+    if shift.unsigned_abs() > LONGEST {
         return unless_unsound(model, table, LIMIT_PAST);
     }
     let moved = limits.moved(variable, shift);

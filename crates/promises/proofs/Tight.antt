@@ -4,8 +4,8 @@
 --   Outcome      what a call may give back and leave behind by a contract
 --   Tight        any two outcomes of a call are the same, for all arguments, whether or not they meet the `requires`
 --   tight        it is enough that the result and each lent slice are the same
---   FN-tight     the contract of the function FN, as it is generated from the code's own `ensures`; a method has its type's name in front.
---                A contract over a ghost value is tight at each of its values
+--   FN-tight     the contract of the function FN, as it is generated from the code's own `ensures`; a method has its type's name in front
+use mathlib.Core.HLevel.{is_prop→PathP}
 use mathlib.Core.Path.{◌≡◌, refl, sym, ◌∙◌, ap}
 use mathlib.Core.List.{List, [], ◌∷◌}
 use Prim.Native.Nat.{ℕ, ◌/◌, ◌<◌}
@@ -20,6 +20,8 @@ use denote.Signature.{Slot, types_at}
 use denote.Triple.Entry.{Args, Res}
 use denote.Triple.End.{Kepts, Fins}
 use denote.Triple.Clauses.{Ended, Lasts, AtExit, at_exit}
+use Rattle.std.proofs.Props.{props}
+use Rattle.polynomials.specs.Binomial.{multiplied_rows, shift_in}
 use Rattle.polynomials.specs.Limits.{cap}
 use Rattle.polynomials.specs.Ready.{Reached}
 use Rattle.polynomials.specs.declared.Reach.{Reach}
@@ -33,6 +35,7 @@ use Rattle.whole.specs.contracts as whole
 use Rattle.whole.proofs as whole'
 use Rattle.polynomials.specs.contracts as polynomials
 use Rattle.polynomials.proofs as polynomials'
+use Rattle.shifting.specs.declared.Rows.{Rows}
 use Rattle.shifting.specs.contracts as shifting
 use Rattle.shifting.proofs as shifting'
 use Rattle.shapes.specs.contracts as shapes
@@ -138,11 +141,17 @@ pub weight-at-tight : Tight polynomials.weight_at.ended polynomials'.weight_at.R
 weight-at-tight κs a o p = tight o p (search same)
 
 -- ════ shifting
-pub multiplied-out-tight : Tight shifting.multiplied_out.ended shifting'.multiplied_out.Reads.Post
-multiplied-out-tight κs a o p = tight o p (search same)
+-- what the rows are rows of has one proof at most
+same-rows : {x y : Rows} {n : List (List ℤ)} → x.numbers ≡ n → y.numbers ≡ n → x ≡ y
+same-rows {x} {y} h k =
+    let e = same h k in
+    λ i. record { numbers = e i; of_a_shift = is_prop→PathP (λ j. e j ≡ multiplied_rows (shift_in (e j))) (λ j. hlevel props) x.of_a_shift y.of_a_shift i }
 
-pub move-group-tight : (s : shifting'.move_group.Reads.Ghost) → Tight shifting.move_group.ended (shifting'.move_group.Reads.Post-at s)
-move-group-tight s κs a o p = tight o p (search same)
+pub multiplied-out-tight : Tight shifting.multiplied_out.ended shifting'.multiplied_out.Reads.Post
+multiplied-out-tight κs a o p = tight o p (same-rows o.allowed p.allowed, tt)
+
+pub move-group-tight : Tight shifting.move_group.ended shifting'.move_group.Reads.Post
+move-group-tight κs a o p = tight o p (search same)
 
 -- ════ shapes
 pub shape-size-tight : Tight shapes.size.ended shapes'.size.Reads.Post
@@ -223,8 +232,8 @@ within-cap-tight κs a o p = tight o p (search same)
 pub coefficient-at-tight : Tight blocks.coefficient_at.ended blocks'.coefficient_at.Reads.Post
 coefficient-at-tight κs a o p = tight o p (search same)
 
-pub move-block-tight : (s : blocks'.move_block.Reads.Ghost) → Tight blocks.move_block.ended (blocks'.move_block.Reads.Post-at s)
-move-block-tight s κs a o p = tight o p (search same)
+pub move-block-tight : Tight blocks.move_block.ended blocks'.move_block.Reads.Post
+move-block-tight κs a o p = tight o p (search same)
 
 pub copy-tight : Tight blocks.copy.ended blocks'.copy.Reads.Post
 copy-tight κs a o p = tight o p (search same)

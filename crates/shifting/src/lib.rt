@@ -1,7 +1,7 @@
 // A group moved: the powers of v + s are multiplied out once, and every number of the moved group is made from them.
 #![tactic(auto)]
 
-ghost use Rattle.std.specs.Prelude.{◌≡◌, ◌+◌, ◌^◌, ◌≤◌, ◌<◌, ℤ, nat_abs, length};
+ghost use Rattle.std.specs.Prelude.{◌≡◌, ◌+◌, ◌^◌, ◌≤◌, ◌<◌, nat_abs, length};
 ghost use Rattle.polynomials.specs.Numbers.{ints};
 ghost use Rattle.polynomials.specs.Sum.{listed};
 ghost use Rattle.polynomials.specs.Order.{place};
@@ -12,6 +12,13 @@ ghost use Rattle.polynomials.specs.Ready.{Movable};
 ghost use Rattle.polynomials.specs.declared.Variable.TheVariants.{First, Second};
 
 use polynomials::Variable;
+
+// The powers 0 to 4 of v + s multiplied out, a row for each: at p of row k what stands before v^p. The shift s needs no field: the rows tell it.
+#[derive(Clone, Copy)]
+pub struct Rows {
+    pub numbers: [[i64; 5]; 5],
+    pub ghost of_a_shift: { numbers ≡ multiplied_rows (shift_in numbers) },
+}
 
 // The binomial numbers for powers 0 to 4: k over p stands in row k at p.
 const BINOMIALS: [[i64; 5]; 5] = [
@@ -29,27 +36,26 @@ fn multiplied_row(s: i64, k: usize) -> [i64; 5]
 {
     let mut row = BINOMIALS[k];
     let mut power: i64 = 1;
-    let mut p = k;
-    while p > 0 {
-        p -= 1;
+    for p in (0..k).rev() {
         power *= s;
         row[p] *= power;
     }
     row
 }
 
-// The powers 0 to 4 of v + s multiplied out, a row for each.
-pub fn multiplied_out(s: i64) -> [[i64; 5]; 5]
+// The rows of a shift.
+pub fn multiplied_out(s: i64) -> Rows
     requires { nat_abs s ≤ farthest }
-    ensures { result ≡ multiplied_rows s }
+    ensures { result.numbers ≡ multiplied_rows s }
 {
-    [
+    let numbers = [
         multiplied_row(s, 0),
         multiplied_row(s, 1),
         multiplied_row(s, 2),
         multiplied_row(s, 3),
         multiplied_row(s, 4),
-    ]
+    ];
+    Rows { numbers }
 }
 
 // The other variable.
@@ -81,18 +87,18 @@ fn moved_number(
     at: usize,
     beside: usize,
     p: usize,
-    rows: &[[i64; 5]; 5],
+    rows: &Rows,
 ) -> i64
-    ghost s: { ℤ }
-    requires rows_value { shift_in rows.now ≡ s }
-    requires rows_value_2 { (rows.now ≡ multiplied_rows s) × (Movable which s from.now × ((at ≡ place (own which p beside) (own which beside p)) × (at < length from.now))) }
-    ensures { result ≡ moved_number ints which s from.now (own which p beside) (own which beside p) }
+    requires movable { Movable which (shift_in rows.now.numbers) from.now }
+    requires there { (at ≡ place (own which p beside) (own which beside p)) × (at < length from.now) }
+    ensures { result ≡ moved_number ints which (shift_in rows.now.numbers) from.now (own which p beside) (own which beside p) }
 {
     let mut sum: i64 = 0;
     let mut i = at;
     let mut j: usize = 0;
+    // no range: the step to the next place of a chain grows
     while i < from.len() {
-        sum += from[i] * rows[p + j][p];
+        sum += from[i] * rows.numbers[p + j][p];
         i += gap(beside + p + j, which);
         j += 1;
     }
@@ -101,14 +107,14 @@ fn moved_number(
 
 // The group moved by s in one variable, written into `out`, by the powers of v + s multiplied out. It goes chain by chain: the numbers that
 // differ only in the power of the variable, beside the power 0 of the other, beside its power 1, and so on.
-pub fn move_group(from: &[i64], out: &mut [i64], which: Variable, rows: &[[i64; 5]; 5])
-    ghost s: { ℤ }
-    requires rows_value { shift_in rows.now ≡ s }
-    requires rows_value_2 { (rows.now ≡ multiplied_rows s) × (Movable which s from.now × (length out.old ≡ length from.now)) }
-    ensures { out.new ≡ moved which s from.now }
+pub fn move_group(from: &[i64], out: &mut [i64], which: Variable, rows: &Rows)
+    requires movable { Movable which (shift_in rows.now.numbers) from.now }
+    requires same_length { length out.old ≡ length from.now }
+    ensures { out.new ≡ moved which (shift_in rows.now.numbers) from.now }
 {
     let mut beside: usize = 0;
     let mut start: usize = 0;
+    // no ranges: the steps along a chain and from chain to chain grow
     while start < from.len() {
         let mut at = start;
         let mut p: usize = 0;

@@ -6,6 +6,7 @@ use native.Mathlib.Omega.{arith}
 use lib.IntN.{ℤ}
 use lib.ListN.{length, drop}
 use Rattle.polynomials.specs.Order.{size}
+use Rattle.polynomials.specs.Binomial.{shift_in}
 use Rattle.polynomials.specs.Groups.{grouped, moved_group}
 use Rattle.polynomials.proofs.Places.{below-highest}
 use Rattle.layout.specs.declared.Kind.{Kind}
@@ -77,65 +78,46 @@ module _ (model : Model) (i : ℕ) (s : ℤ) (from : List ℤ) (v : Shiftable (s
 
 -- ---- the goals
 pub overflow_mul-at : goal.overflow_mul-at
-overflow_mul-at g c =
-    omega (arith, small c.args.model c.args.variable g.shift c.args.from.now c.requires.1.1.1 c.kind-own.result c.kind-own.ensures c.size-size.result c.size-size.ensures, below-highest)
+overflow_mul-at c =
+    let a = c.args in
+    omega (arith, small a.model a.variable (shift_in a.rows.now.numbers) a.from.now c.requires.shiftable c.kind-own.result c.kind-own.ensures c.size-size.result c.size-size.ensures, below-highest)
 
 pub move_between-requires : goal.move_between-requires
-move_between-requires g c =
+move_between-requires c =
     let a = c.args in
-    (c.requires.0, (c.requires.1.0, (first_step a.model a.variable g.shift a.from.now c.requires.1.1.1 c.kind-own.result c.kind-own.ensures c.size-size.result c.size-size.ensures a.out.now c.requires.1.1.0).0))
+    (first_step a.model a.variable (shift_in a.rows.now.numbers) a.from.now c.requires.shiftable c.kind-own.result c.kind-own.ensures c.size-size.result c.size-size.ensures a.out.now c.requires.same_length).0
 
 pub move_between-requires-2 : goal.move_between-requires-2
-move_between-requires-2 g c =
-    let a = c.args in (
-      c.requires.0,
-      (
-        c.requires.1.0,
-        (second-step a.model a.variable g.shift a.from.now c.requires.1.1.1 c.kind-own.result c.kind-own.ensures c.size-size.result c.size-size.ensures a.out.now c.requires.1.1.0
-            c.move_between.new.out c.move_between.ensures).0,
-      ),
-    )
+move_between-requires-2 c =
+    let a = c.args in
+    (second-step a.model a.variable (shift_in a.rows.now.numbers) a.from.now c.requires.shiftable c.kind-own.result c.kind-own.ensures c.size-size.result c.size-size.ensures a.out.now c.requires.same_length c.move_between.new.out c.move_between.ensures).0
 
 pub loop-group-init : goal.loop-group-init
-loop-group-init g c =
-    let a = c.args in (
-      two-groups a.model,
-      two-moved a.model a.variable g.shift a.from.now c.requires.1.1.1 c.kind-own.result c.kind-own.ensures c.size-size.result c.size-size.ensures a.out.now c.requires.1.1.0
-          c.move_between.new.out c.move_between.ensures c.move_between-2.new.out c.move_between-2.ensures,
-    )
+loop-group-init c =
+    let a = c.args in
+    two-moved a.model a.variable (shift_in a.rows.now.numbers) a.from.now c.requires.shiftable c.kind-own.result c.kind-own.ensures c.size-size.result c.size-size.ensures a.out.now c.requires.same_length c.move_between.new.out c.move_between.ensures c.move_between-2.new.out c.move_between-2.ensures
 
 pub overflow_add-end : goal.overflow_add-end
-overflow_add-end g c =
+overflow_add-end c =
     let a = c.args in
     let l = c.loop-group in
-    let b : Between a.from.now l.out l.at (l.at + c.size.result) c.kind-kind.result.u c.kind-kind.result.v a.variable g.shift =
-    ready a.model a.variable g.shift a.from.now c.requires.1.1.1 c.kind-kind.result l.group l.at c.size.result l.out (omega (arith, c.loop-group-test.true, c.groups.ensures)) c.kind-kind.ensures
-    c.size.ensures l.invariant.1 in
-    omega (arith, b.inside, c.requires.1.1.1.whole, few-block a.model)
+    let b = ready a.model a.variable (shift_in a.rows.now.numbers) a.from.now c.requires.shiftable c.kind-kind.result l.group l.at c.size.result l.out (omega (arith, c.loop-group-test.true, c.groups-group-end.ensures)) c.kind-kind.ensures c.size.ensures l.invariant in
+    omega (arith, b.inside, c.requires.shiftable.whole, few-block a.model)
 
 pub move_between-requires-in-loop-group : goal.move_between-requires-in-loop-group
-move_between-requires-in-loop-group g c =
-    let a = c.args in
-    let l = c.loop-group in (
-      c.requires.0,
-      (
-        c.requires.1.0,
-        ready a.model a.variable g.shift a.from.now c.requires.1.1.1 c.kind-kind.result l.group l.at c.size.result l.out (omega (arith, c.loop-group-test.true, c.groups.ensures)) c.kind-kind.ensures
-            c.size.ensures l.invariant.1,
-      ),
-    )
-
-pub loop-group-preserved : goal.loop-group-preserved
-loop-group-preserved g c =
-    let a = c.args in
-    let l = c.loop-group in (
-      omega (arith, c.loop-group-test.true, c.groups.ensures),
-      more-moved a.model a.variable g.shift a.from.now c.requires.1.1.1 c.kind-kind.result l.group l.at c.size.result l.out (omega (arith, c.loop-group-test.true, c.groups.ensures)) c.kind-kind.ensures
-          c.size.ensures l.invariant.1 c.move_between-in-loop-group.new.out c.move_between-in-loop-group.ensures,
-    )
-
-pub returns : goal.returns
-returns g c =
+move_between-requires-in-loop-group c =
     let a = c.args in
     let l = c.loop-group in
-    moved_all (shape a.model) a.variable g.shift a.from.now l.out l.group l.at l.invariant.1 (omega (arith, c.loop-group-test.false, c.groups.ensures))
+    ready a.model a.variable (shift_in a.rows.now.numbers) a.from.now c.requires.shiftable c.kind-kind.result l.group l.at c.size.result l.out (omega (arith, c.loop-group-test.true, c.groups-group-end.ensures)) c.kind-kind.ensures c.size.ensures l.invariant
+
+pub loop-group-preserved : goal.loop-group-preserved
+loop-group-preserved c =
+    let a = c.args in
+    let l = c.loop-group in
+    more-moved a.model a.variable (shift_in a.rows.now.numbers) a.from.now c.requires.shiftable c.kind-kind.result l.group l.at c.size.result l.out (omega (arith, c.loop-group-test.true, c.groups-group-end.ensures)) c.kind-kind.ensures c.size.ensures l.invariant c.move_between-in-loop-group.new.out c.move_between-in-loop-group.ensures
+
+pub returns : goal.returns
+returns c =
+    let a = c.args in
+    let l = c.loop-group in
+    moved_all (shape a.model) a.variable (shift_in a.rows.now.numbers) a.from.now l.out l.group l.at l.invariant (omega (arith, c.loop-group-test.false, c.groups-group-end.ensures))

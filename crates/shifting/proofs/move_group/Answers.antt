@@ -14,6 +14,7 @@ use mir.Val.{SFits}
 use mir.Facts.{to_z-of_z}
 use Rattle.polynomials.specs.Numbers.{ints}
 use Rattle.polynomials.specs.Order.{below}
+use Rattle.polynomials.specs.Binomial.{shift_in}
 use Rattle.polynomials.specs.Ready.{Movable}
 use Rattle.polynomials.specs.Group.{own, moved_number, replaced, moved}
 use Rattle.polynomials.specs.declared.Variable.{Variable}
@@ -83,10 +84,10 @@ gap_is w b e h = e ∙ ap (λ u. gap u b) h
 -- ---- the goals
 pub loop-start-init : goal.loop-start-init
 unfolding below
-loop-start-init g c = record {
-  long = c.requires.1.1.1;
+loop-start-init c = record {
+  long = c.requires.same_length;
   here = by c.args.which;
-  filled = none c.args.which g.s c.args.from.now c.args.out.now;
+  filled = none c.args.which (shift_in c.args.rows.now.numbers) c.args.from.now c.args.out.now;
 }
   where
     by : (v : Variable) → 0 ≡ chain v 0 0
@@ -94,59 +95,56 @@ loop-start-init g c = record {
     by Second = refl
 
 pub loop-at-init : goal.loop-at-init
-loop-at-init g c = c.loop-start.invariant
-
-pub moved_number-x-requires : goal.moved_number-x-requires
-moved_number-x-requires g c = (c.requires.0, (c.requires.1.0, (c.requires.1.1.0, (c.loop-at.invariant.here, c.loop-at-test.true))))
+loop-at-init c = c.loop-start.invariant
 
 pub bounds-out-at : goal.bounds-out-at
-bounds-out-at g c = omega (arith, c.loop-at.invariant.long, c.loop-at-test.true)
+bounds-out-at c = omega (arith, c.loop-at.invariant.long, c.loop-at-test.true)
 
 pub overflow_add-beside : goal.overflow_add-beside
-overflow_add-beside g c = omega (arith, degree c.args.which g.s c.args.from.now c.loop-at.invariant c.loop-at-test.true c.requires.1.1.0)
+overflow_add-beside c = omega (arith, degree c.args.which (shift_in c.args.rows.now.numbers) c.args.from.now c.loop-at.invariant c.loop-at-test.true c.requires.movable)
 
 pub gap-at-requires : goal.gap-at-requires
-gap-at-requires g c = omega (arith, degree c.args.which g.s c.args.from.now c.loop-at.invariant c.loop-at-test.true c.requires.1.1.0)
+gap-at-requires c = omega (arith, degree c.args.which (shift_in c.args.rows.now.numbers) c.args.from.now c.loop-at.invariant c.loop-at-test.true c.requires.movable)
 
 pub overflow_add-at : goal.overflow_add-at
-overflow_add-at g c =
+overflow_add-at c =
     let near = gap-near c.args.which (c.loop-start.beside + c.loop-at.p) c.gap-at.ensures in
-    omega (arith, near.1, degree c.args.which g.s c.args.from.now c.loop-at.invariant c.loop-at-test.true c.requires.1.1.0, c.loop-at-test.true, c.requires.1.1.0.few)
+    omega (arith, near.1, degree c.args.which (shift_in c.args.rows.now.numbers) c.args.from.now c.loop-at.invariant c.loop-at-test.true c.requires.movable, c.loop-at-test.true, c.requires.movable.few)
 
 pub overflow_add-p : goal.overflow_add-p
-overflow_add-p g c = omega (arith, degree c.args.which g.s c.args.from.now c.loop-at.invariant c.loop-at-test.true c.requires.1.1.0)
+overflow_add-p c = omega (arith, degree c.args.which (shift_in c.args.rows.now.numbers) c.args.from.now c.loop-at.invariant c.loop-at-test.true c.requires.movable)
 
 pub loop-at-smaller : goal.loop-at-smaller
-loop-at-smaller g c =
+loop-at-smaller c =
     let near = gap-near c.args.which (c.loop-start.beside + c.loop-at.p) c.gap-at.ensures in
     omega (arith, near.0, c.loop-at-test.true)
 
 pub loop-at-preserved : goal.loop-at-preserved
-loop-at-preserved g c =
+loop-at-preserved c =
     let f : SFits w64 c.moved_number-x.result = search rules in
-    more c.args.which g.s c.args.from.now c.loop-at.out c.loop-start.beside c.loop-at.p c.loop-at.at c.gap-at.result _ c.loop-at-test.true c.loop-at.invariant c.gap-at.ensures
-    (to_z-of_z {w = w64} f ∙ c.moved_number-x.ensures ∙ number-there c.args.which g.s c.args.from.now c.loop-start.beside c.loop-at.p)
+    more c.args.which (shift_in c.args.rows.now.numbers) c.args.from.now c.loop-at.out c.loop-start.beside c.loop-at.p c.loop-at.at c.gap-at.result _ c.loop-at-test.true c.loop-at.invariant c.gap-at.ensures
+    (to_z-of_z {w = w64} f ∙ c.moved_number-x.ensures ∙ number-there c.args.which (shift_in c.args.rows.now.numbers) c.args.from.now c.loop-start.beside c.loop-at.p)
 
 pub gap-start-requires : goal.gap-start-requires
-gap-start-requires g c = omega (arith, degree c.args.which g.s c.args.from.now c.loop-start.invariant c.loop-start-test.true c.requires.1.1.0)
+gap-start-requires c = omega (arith, degree c.args.which (shift_in c.args.rows.now.numbers) c.args.from.now c.loop-start.invariant c.loop-start-test.true c.requires.movable)
 
 pub overflow_add-start : goal.overflow_add-start
-overflow_add-start g c =
+overflow_add-start c =
     let near = gap-near (own c.args.which Second First) c.loop-start.beside (gap_is c.args.which c.loop-start.beside c.gap-start.ensures c.other.ensures) in
-    omega (arith, near.1, degree c.args.which g.s c.args.from.now c.loop-start.invariant c.loop-start-test.true c.requires.1.1.0, c.loop-start-test.true, c.requires.1.1.0.few)
+    omega (arith, near.1, degree c.args.which (shift_in c.args.rows.now.numbers) c.args.from.now c.loop-start.invariant c.loop-start-test.true c.requires.movable, c.loop-start-test.true, c.requires.movable.few)
 
 pub overflow_add-beside-in-loop-start : goal.overflow_add-beside-in-loop-start
-overflow_add-beside-in-loop-start g c = omega (arith, degree c.args.which g.s c.args.from.now c.loop-start.invariant c.loop-start-test.true c.requires.1.1.0)
+overflow_add-beside-in-loop-start c = omega (arith, degree c.args.which (shift_in c.args.rows.now.numbers) c.args.from.now c.loop-start.invariant c.loop-start-test.true c.requires.movable)
 
 pub loop-start-smaller : goal.loop-start-smaller
-loop-start-smaller g c =
+loop-start-smaller c =
     let near = gap-near (own c.args.which Second First) c.loop-start.beside (gap_is c.args.which c.loop-start.beside c.gap-start.ensures c.other.ensures) in
     omega (arith, near.0, c.loop-start-test.true)
 
 pub loop-start-preserved : goal.loop-start-preserved
-loop-start-preserved g c =
-    next-chain c.args.which g.s c.args.from.now c.loop-at.out c.loop-start.beside c.loop-at.p c.loop-at.at c.loop-start.start c.gap-start.result c.loop-at-test.false c.loop-at.invariant c.loop-start.invariant.here
+loop-start-preserved c =
+    next-chain c.args.which (shift_in c.args.rows.now.numbers) c.args.from.now c.loop-at.out c.loop-start.beside c.loop-at.p c.loop-at.at c.loop-start.start c.gap-start.result c.loop-at-test.false c.loop-at.invariant c.loop-start.invariant.here
     (gap_is c.args.which c.loop-start.beside c.gap-start.ensures c.other.ensures)
 
 pub returns : goal.returns
-returns g c = full c.args.which g.s c.args.from.now c.loop-start.out c.loop-start.beside c.loop-start.start c.loop-start-test.false c.loop-start.invariant
+returns c = full c.args.which (shift_in c.args.rows.now.numbers) c.args.from.now c.loop-start.out c.loop-start.beside c.loop-start.start c.loop-start-test.false c.loop-start.invariant

@@ -8,6 +8,7 @@ use lib.IntN.{ℤ, pos}
 use lib.ListN.{length, get_or}
 use Rattle.polynomials.specs.Numbers.{ints}
 use Rattle.polynomials.specs.Order.{powers}
+use Rattle.polynomials.specs.Binomial.{shift_in}
 use Rattle.polynomials.specs.Group.{own, moved_number}
 use Rattle.polynomials.specs.declared.Variable.{Variable}
 use Rattle.polynomials.proofs.Chains.{chain}
@@ -34,18 +35,14 @@ module _ (w : Variable) (s : ℤ) (l : List ℤ) where
     pub here : at ≡ chain w b p
     pub filled : Filled out b p
 
--- the shift that a number is moved by is that of the group
-abbrev pub ghost-moved_number : goal.ghost-moved_number
-ghost-moved_number g a = g.s
-
 abbrev pub invariant-loop-at : goal.invariant-loop-at
-invariant-loop-at g l = Stands l.which g.s l.from l.out l.beside l.p l.at
+invariant-loop-at l = Stands l.which (shift_in l.rows.numbers) l.from l.out l.beside l.p l.at
 
 abbrev pub decreases-loop-at : goal.decreases-loop-at
-decreases-loop-at g l = length l.from - l.at
+decreases-loop-at l = length l.from - l.at
 
 abbrev pub invariant-loop-start : goal.invariant-loop-start
-invariant-loop-start g l = Stands l.which g.s l.from l.out l.beside 0 l.start
+invariant-loop-start l = Stands l.which (shift_in l.rows.numbers) l.from l.out l.beside 0 l.start
 
 abbrev pub decreases-loop-start : goal.decreases-loop-start
-decreases-loop-start g l = length l.from - l.start
+decreases-loop-start l = length l.from - l.start

@@ -15,7 +15,7 @@ use Rattle.whole.proofs.Machine.{nat_abs-sfits, op-bits, op-back}
 use Rattle.polynomials.specs.Numbers.{ints}
 use Rattle.polynomials.specs.Sum.{sum as Σ}
 use Rattle.polynomials.specs.Order.{below}
-use Rattle.polynomials.specs.Binomial.{multiplied_out, multiplied_rows}
+use Rattle.polynomials.specs.Binomial.{multiplied_out, multiplied_rows, shift_in}
 use Rattle.polynomials.specs.Group.{own, moved_number}
 use Rattle.polynomials.specs.Limits.{cap}
 use Rattle.polynomials.specs.Ready.{Movable}
@@ -36,11 +36,11 @@ module _ (w : Variable) (s : ℤ) (l : List ℤ) (ready : Movable w s l) (b p : 
   sum_fits : (j : ℕ) → j ≤ length l → SFits w64 (Σ ints j (terms w s l b p))
   sum_fits j h = fits _ (N.le_trans (moved-part-within w s l 1 1 (N.le_refl 1) (N.le_refl 1) (own w p b) (own w b p) start j h) ready.light)
 
-  module _ (j : ℕ) (h : chain w b (p + j) < length l) where
-    low : b + p + j < 5
-    unfolding below
-    low = omega (arith, chain-degree w 5 b (p + j) (N.lt_of_lt_of_le h ready.few))
+  low : (j : ℕ) {i : ℕ} → i ≡ chain w b (p + j) → i < length l → b + p + j < 5
+  unfolding below
+  low j e h = omega (arith, chain-degree w 5 b (p + j) (omega (arith, e, h, ready.few)))
 
+  module _ (j : ℕ) (h : chain w b (p + j) < length l) where
     short : j < length l
     short = omega (arith, chain-far w b (p + j))
 
@@ -57,11 +57,9 @@ module _ (w : Variable) (s : ℤ) (l : List ℤ) (ready : Movable w s l) (b p : 
     next_fits = rw next-sum (sum_fits (j + 1) (omega (arith, short)))
 
     next-turn : {sum more : ℤ} {i step : ℕ} → Turn w s l b p j sum i → step ≡ gap w (b + p + j) → more ≡ Σ ints j (terms w s l b p) +ℤ terms w s l b p j → Turn w s l b p (j + 1) more (i + step)
-    next-turn t g e = record {
-      few = omega (arith, short);
-      here = omega (arith, t.here, g, chain_next w b (p + j) (b + p + j) (omega arith), ap (chain w b) (N.add_assoc p j 1));
-      sum_is = e ∙ next-sum;
-    }
+    next-turn {i = i} {step} t g e =
+        let here : i + step ≡ chain w b (p + (j + 1)) = omega (arith, t.here, g, chain_next w b (p + j) (b + p + j) (omega arith), ap (chain w b) (N.add_assoc p j 1)) in
+        record { few = omega (arith, short); here = here; low = low (j + 1) here; sum_is = e ∙ next-sum }
 
   all : (j : ℕ) → j ≤ length l → length l ≤ chain w b (p + j) → Σ ints j (terms w s l b p) ≡ moved_number ints w s l (own w p b) (own w b p)
   unfolding moved_number
@@ -72,15 +70,12 @@ module _ (w : Variable) (s : ℤ) (l : List ℤ) (ready : Movable w s l) (b p : 
     on : chain w b (p + j) < length l
     on = subst (λ k. k < length l) t.here h
 
-    degree : b + p + j < 5
-    degree = low j on
-
     module _ (f : SFits w64 (get_or l i (pos 0))) (g : SFits w64 (get_or (get_or rows (p + j) []) p (pos 0))) where
       number_is : to_z w64 (of_z w64 (get_or l i (pos 0))) ≡ get_or l (chain w b (p + j)) (pos 0)
       number_is = to_z-of_z {w = w64} f ∙ ap (λ k. get_or l k (pos 0)) t.here
 
       row_is : to_z w64 (of_z w64 (get_or (get_or rows (p + j) []) p (pos 0))) ≡ multiplied_out ints s (p + j) p
-      row_is = to_z-of_z {w = w64} g ∙ row_number s made (p + j) p (omega (arith, degree)) (omega (arith, degree))
+      row_is = to_z-of_z {w = w64} g ∙ row_number s made (p + j) p (omega (arith, t.low h)) (omega (arith, t.low h))
 
       product-bits : SFits w64 (to_z w64 (of_z w64 (get_or l i (pos 0))) *ℤ to_z w64 (of_z w64 (get_or (get_or rows (p + j) []) p (pos 0))))
       product-bits = op-bits ◌*ℤ◌ number_is row_is (product_fits j on)
@@ -100,67 +95,46 @@ inside e h = omega arith
 -- ---- the goals
 pub loop-i-init : goal.loop-i-init
 unfolding Σ
-loop-i-init g c = record {
-  few = omega arith;
-  here = c.requires.1.1.1.0 ∙ ap (chain c.args.which c.args.beside) (sym (N.add-zero c.args.p));
-  sum_is = refl;
-}
-
-pub overflow_add-sum : goal.overflow_add-sum
-overflow_add-sum g c = omega (arith, degree c.args.which g.s c.args.from.now c.requires.1.1.0 c.args.beside c.args.p (inside c.requires.1.1.1.0 c.requires.1.1.1.1) c.args.rows.now c.requires.1.0 c.loop-i.invariant c.loop-i-test.true)
-
-pub offset_bounds-rows-p : goal.offset_bounds-rows-p
-offset_bounds-rows-p g c = omega (arith, degree c.args.which g.s c.args.from.now c.requires.1.1.0 c.args.beside c.args.p (inside c.requires.1.1.1.0 c.requires.1.1.1.1) c.args.rows.now c.requires.1.0 c.loop-i.invariant c.loop-i-test.true)
-
-pub offset_bounds-rows-p-in-loop-i : goal.offset_bounds-rows-p-in-loop-i
-offset_bounds-rows-p-in-loop-i g c = omega (arith, degree c.args.which g.s c.args.from.now c.requires.1.1.0 c.args.beside c.args.p (inside c.requires.1.1.1.0 c.requires.1.1.1.1) c.args.rows.now c.requires.1.0 c.loop-i.invariant c.loop-i-test.true)
-
-pub bounds-rows-p : goal.bounds-rows-p
-bounds-rows-p g c = omega (arith, degree c.args.which g.s c.args.from.now c.requires.1.1.0 c.args.beside c.args.p (inside c.requires.1.1.1.0 c.requires.1.1.1.1) c.args.rows.now c.requires.1.0 c.loop-i.invariant c.loop-i-test.true)
-
-pub bounds-rows-p-in-loop-i : goal.bounds-rows-p-in-loop-i
-bounds-rows-p-in-loop-i g c = omega (arith, degree c.args.which g.s c.args.from.now c.requires.1.1.0 c.args.beside c.args.p (inside c.requires.1.1.1.0 c.requires.1.1.1.1) c.args.rows.now c.requires.1.0 c.loop-i.invariant c.loop-i-test.true)
-
-pub overflow_add-beside : goal.overflow_add-beside
-overflow_add-beside g c = omega (arith, degree c.args.which g.s c.args.from.now c.requires.1.1.0 c.args.beside c.args.p (inside c.requires.1.1.1.0 c.requires.1.1.1.1) c.args.rows.now c.requires.1.0 c.loop-i.invariant c.loop-i-test.true)
-
-pub overflow_add-beside-in-loop-i : goal.overflow_add-beside-in-loop-i
-overflow_add-beside-in-loop-i g c = omega (arith, degree c.args.which g.s c.args.from.now c.requires.1.1.0 c.args.beside c.args.p (inside c.requires.1.1.1.0 c.requires.1.1.1.1) c.args.rows.now c.requires.1.0 c.loop-i.invariant c.loop-i-test.true)
-
-pub gap-i-requires : goal.gap-i-requires
-gap-i-requires g c = omega (arith, degree c.args.which g.s c.args.from.now c.requires.1.1.0 c.args.beside c.args.p (inside c.requires.1.1.1.0 c.requires.1.1.1.1) c.args.rows.now c.requires.1.0 c.loop-i.invariant c.loop-i-test.true)
+loop-i-init c =
+    let a = c.args in
+    let here : a.at ≡ chain a.which a.beside (a.p + 0) = c.requires.there.0 ∙ ap (chain a.which a.beside) (sym (N.add-zero a.p)) in
+    record {
+      few = omega arith;
+      here = here;
+      low = low a.which (shift_in a.rows.now.numbers) a.from.now c.requires.movable a.beside a.p (inside c.requires.there.0 c.requires.there.1) 0 here;
+      sum_is = refl;
+    }
 
 pub overflow_mul-sum : goal.overflow_mul-sum
-overflow_mul-sum g c =
+overflow_mul-sum c =
     let f : SFits w64 (get_or c.args.from.now c.loop-i.i (pos 0)) = search rules in
-    let h : SFits w64 (get_or (get_or c.args.rows.now (c.args.p + c.loop-i.j) []) c.args.p (pos 0)) = search rules in
-    product-bits c.args.which g.s c.args.from.now c.requires.1.1.0 c.args.beside c.args.p (inside c.requires.1.1.1.0 c.requires.1.1.1.1) c.args.rows.now c.requires.1.0 c.loop-i.invariant c.loop-i-test.true f h
+    let h : SFits w64 (get_or (get_or c.args.rows.now.numbers (c.args.p + c.loop-i.j) []) c.args.p (pos 0)) = search rules in
+    product-bits c.args.which (shift_in c.args.rows.now.numbers) c.args.from.now c.requires.movable c.args.beside c.args.p (inside c.requires.there.0 c.requires.there.1) c.args.rows.now.numbers c.args.rows.now.of_a_shift c.loop-i.invariant c.loop-i-test.true f h
 
 pub overflow_add-sum-in-loop-i : goal.overflow_add-sum-in-loop-i
-overflow_add-sum-in-loop-i g c =
+overflow_add-sum-in-loop-i c =
     let f : SFits w64 (get_or c.args.from.now c.loop-i.i (pos 0)) = search rules in
-    let h : SFits w64 (get_or (get_or c.args.rows.now (c.args.p + c.loop-i.j) []) c.args.p (pos 0)) = search rules in
-    sum-bits c.args.which g.s c.args.from.now c.requires.1.1.0 c.args.beside c.args.p (inside c.requires.1.1.1.0 c.requires.1.1.1.1) c.args.rows.now c.requires.1.0 c.loop-i.invariant c.loop-i-test.true f h
+    let h : SFits w64 (get_or (get_or c.args.rows.now.numbers (c.args.p + c.loop-i.j) []) c.args.p (pos 0)) = search rules in
+    sum-bits c.args.which (shift_in c.args.rows.now.numbers) c.args.from.now c.requires.movable c.args.beside c.args.p (inside c.requires.there.0 c.requires.there.1) c.args.rows.now.numbers c.args.rows.now.of_a_shift c.loop-i.invariant c.loop-i-test.true f h
 
 pub overflow_add-i : goal.overflow_add-i
-overflow_add-i g c =
-    let d = degree c.args.which g.s c.args.from.now c.requires.1.1.0 c.args.beside c.args.p (inside c.requires.1.1.1.0 c.requires.1.1.1.1) c.args.rows.now c.requires.1.0 c.loop-i.invariant c.loop-i-test.true in
+overflow_add-i c =
     let near = gap-near c.args.which (c.args.beside + c.args.p + c.loop-i.j) c.gap-i.ensures in
-    omega (arith, near.1, d, c.loop-i-test.true, c.requires.1.1.0.few)
+    omega (arith, near.1, c.loop-i.invariant.low c.loop-i-test.true, c.loop-i-test.true, c.requires.movable.few)
 
 pub loop-i-smaller : goal.loop-i-smaller
-loop-i-smaller g c =
+loop-i-smaller c =
     let near = gap-near c.args.which (c.args.beside + c.args.p + c.loop-i.j) c.gap-i.ensures in
     omega (arith, near.0, c.loop-i-test.true)
 
 pub loop-i-preserved : goal.loop-i-preserved
-loop-i-preserved g c =
+loop-i-preserved c =
     let f : SFits w64 (get_or c.args.from.now c.loop-i.i (pos 0)) = search rules in
-    let h : SFits w64 (get_or (get_or c.args.rows.now (c.args.p + c.loop-i.j) []) c.args.p (pos 0)) = search rules in
-    again c.args.which g.s c.args.from.now c.requires.1.1.0 c.args.beside c.args.p (inside c.requires.1.1.1.0 c.requires.1.1.1.1) c.args.rows.now c.requires.1.0 c.loop-i.invariant c.loop-i-test.true f h c.gap-i.ensures
+    let h : SFits w64 (get_or (get_or c.args.rows.now.numbers (c.args.p + c.loop-i.j) []) c.args.p (pos 0)) = search rules in
+    again c.args.which (shift_in c.args.rows.now.numbers) c.args.from.now c.requires.movable c.args.beside c.args.p (inside c.requires.there.0 c.requires.there.1) c.args.rows.now.numbers c.args.rows.now.of_a_shift c.loop-i.invariant c.loop-i-test.true f h c.gap-i.ensures
 
 pub returns : goal.returns
-returns g c =
+returns c =
     let t = c.loop-i.invariant in
     t.sum_is
-    ∙ all c.args.which g.s c.args.from.now c.requires.1.1.0 c.args.beside c.args.p (inside c.requires.1.1.1.0 c.requires.1.1.1.1) c.loop-i.j t.few (omega (arith, t.here, c.loop-i-test.false))
+    ∙ all c.args.which (shift_in c.args.rows.now.numbers) c.args.from.now c.requires.movable c.args.beside c.args.p (inside c.requires.there.0 c.requires.there.1) c.loop-i.j t.few (omega (arith, t.here, c.loop-i-test.false))
