@@ -7,14 +7,12 @@ ghost use Rattle.layout.specs.Shape.{shape, limits_length, table_length};
 ghost use Rattle.layout.specs.Numbers.{limits_room, reaches_room};
 ghost use Rattle.layout.specs.Moving.{moved_table, move_number, move_output};
 ghost use Rattle.layout.specs.Accepted.{MoveAccepted};
-ghost use Rattle.layout.specs.Refusals.{first, ◌when◌};
+ghost use Rattle.layout.specs.Refusals.{refusal_number, given_back, first, ◌when◌};
 ghost use Rattle.tables.specs.Ready.{unsound};
 ghost use Rattle.moving.specs.Ready.{longer_at, Lengthened, HoldsMoved, Movable, move_own};
 
 use blocks::move_block;
-use layout::refusals::{
-    BAD_LIMITS, DONE, LIMIT_PAST, MOVE_TOO_HEAVY, NO_VARIABLE, WRONG_OUTPUT, WRONG_TABLE,
-};
+use layout::refusals::Refused;
 use layout::{LIMITS_ROOM, Model, REACHES_ROOM};
 use limits::{Limits, MOST};
 use shifting::multiplied_out;
@@ -51,32 +49,35 @@ fn write_limits(limits: Limits, out: &mut [i64])
     }
 }
 
-// The refusal of a move of a table with good limits, of which the moved ones are at hand: a limit that would leave its range, or the weight rule.
+// Refuses a move of a table with good limits, of which the moved ones are at hand: a limit would leave its range, or the weight rule does not hold.
 // A move keeps the order of the limits, so that the moved ones are good where they are in range.
-fn refusal(model: Model, table: &[i64], moved: Limits, variable: usize, shift: i64) -> u64
+fn refusal(
+    model: Model,
+    table: &[i64],
+    moved: Limits,
+    variable: usize,
+    shift: i64,
+) -> Result<(), Refused>
     requires { Movable model table.now variable shift moved }
-    ensures { result ≡ first (move_own (shape model) table.now variable shift) }
+    ensures { given_back result ≡ first (move_own (shape model) table.now variable shift) }
 {
     if !moved.good() {
-        return LIMIT_PAST;
+        return Err(Refused::LimitPast);
     }
     let reaches = longer(moved.reaches(), variable, shift.unsigned_abs());
-    if within_cap(model, table, reaches) {
-        return DONE;
+    if !within_cap(model, table, reaches) {
+        return Err(Refused::MoveTooHeavy);
     }
-    MOVE_TOO_HEAVY
+    Ok(())
 }
 
-// The refusal of a table that is not sound, which comes before any other of the move.
-fn unless_unsound(model: Model, table: &[i64], refused: u64) -> u64
+// The refusal of a table that is not sound comes before any other of the move.
+fn unless_unsound(model: Model, table: &[i64], refused: Refused) -> Result<(), Refused>
     requires { length table.now ≡ table_length (shape model) }
-    ensures { result ≡ first (unsound (shape model) table.now ++ (refused when true) ∷ []) }
+    ensures { given_back result ≡ first (unsound (shape model) table.now ++ (refusal_number refused when true) ∷ []) }
 {
-    let unsound = soundness(model, table);
-    if unsound != DONE {
-        return unsound;
-    }
-    refused
+    soundness(model, table)?;
+    Err(refused)
 }
 
 // The moved table, written into `out`: the limits, then each block into the part that belongs to it.
@@ -109,41 +110,52 @@ fn write_moved(
 
 // Moves a variable of a table into an output as long. The weights are worked out once: those of the weight rule are no less than the table's own, which
 // are worked out only where the move is refused.
-fn move_whole(model: Model, table: &[i64], variable: usize, shift: i64, out: &mut [i64]) -> u64
+fn move_whole(
+    model: Model,
+    table: &[i64],
+    variable: usize,
+    shift: i64,
+    out: &mut [i64],
+) -> Result<(), Refused>
     requires { (length table.now ≡ table_length (shape model)) × ((length out.old ≡ table_length (shape model)) × (variable < (shape model).variables)) }
-    ensures number { result ≡ move_number (shape model) table.now variable shift out.old }
+    ensures number { given_back result ≡ move_number (shape model) table.now variable shift out.old }
     ensures output { out.new ≡ move_output (shape model) table.now variable shift out.old }
 {
     let limits = Limits::of(model, table);
     if !limits.good() {
-        return BAD_LIMITS;
+        return Err(Refused::BadLimits);
     }
     if shift.unsigned_abs() > LONGEST {
-        return unless_unsound(model, table, LIMIT_PAST);
+        return unless_unsound(model, table, Refused::LimitPast);
     }
     let moved = limits.moved(variable, shift);
-    let refused = refusal(model, table, moved, variable, shift);
-    if refused != DONE {
+    if let Err(refused) = refusal(model, table, moved, variable, shift) {
         return unless_unsound(model, table, refused);
     }
     write_moved(model, table, moved, variable, shift, out);
-    DONE
+    Ok(())
 }
 
 // Writes the table with the zero of one variable moved by `shift` into `out`, or refuses and leaves `out` as it was. The moved
 // table answers at a reading less `shift` what this one answers at the reading.
-pub fn move_datum(model: Model, table: &[i64], variable: usize, shift: i64, out: &mut [i64]) -> u64
-    ensures number { result ≡ move_number (shape model) table.now variable shift out.old }
+pub fn move_datum(
+    model: Model,
+    table: &[i64],
+    variable: usize,
+    shift: i64,
+    out: &mut [i64],
+) -> Result<(), Refused>
+    ensures number { given_back result ≡ move_number (shape model) table.now variable shift out.old }
     ensures output { out.new ≡ move_output (shape model) table.now variable shift out.old }
 {
     if table.len() != shapes::table(model) {
-        return WRONG_TABLE;
+        return Err(Refused::WrongTable);
     }
     if out.len() != shapes::table(model) {
-        return WRONG_OUTPUT;
+        return Err(Refused::WrongOutput);
     }
     if variable >= shapes::variables(model) {
-        return NO_VARIABLE;
+        return Err(Refused::NoVariable);
     }
     move_whole(model, table, variable, shift, out)
 }

@@ -1,5 +1,5 @@
 -- `moving::move_whole` meets its contract: the refusals of the table come first, and a move that has none of its own is accepted. Assumes nothing.
-use mathlib.Core.Path.{◌≡◌, sym, ◌∙◌, ap, subst}
+use mathlib.Core.Path.{◌≡◌, refl, sym, ◌∙◌, ap, subst}
 use mathlib.Core.Bool.{Bool, true, false}
 use mathlib.Core.List.{List, [], ◌∷◌, ◌++◌}
 use Prim.Native.Nat.{ℕ, ◌<◌}
@@ -16,11 +16,10 @@ use Rattle.layout.specs.Refusals.{first, ◌when◌, done, bad_limits, limit_pas
 use Rattle.layout.specs.Moving.{moved_limit, moved_table, move_number, move_output}
 use Rattle.layout.specs.Accepted.{MoveAccepted}
 use Rattle.layout.proofs.Fine.{well-formed, some-table}
-use Rattle.laws.proofs.Refused.{first-hit, move-done, move-kept, move-given}
+use Rattle.laws.proofs.Refused.{refused-positive, first-hit, move-done, move-kept, move-given}
 use Rattle.limits.specs.declared.Limits.{Limits}
 use Rattle.tables.specs.Ready.{unsound}
 use Rattle.tables.proofs.Taken.{taken, good-taken}
-use Rattle.tables.proofs.Steps.{positive}
 use Rattle.moving.specs.Ready.{HoldsMoved, Movable, move_own}
 use Rattle.moving.proofs.Steps.{moved-held, move-bad, move-refused, move-allowed, move-far, some-refusal}
 use Rattle.moving.proofs.move_whole.Goals as goal
@@ -95,28 +94,28 @@ returns-then-unsigned_abs-gt-LONGEST c =
     let r = too-far a.model a.table.now a.variable a.shift a.out.now c.requires c.of-limits.ensures g (to_z-of_z c.ranges.shift) c.unsigned_abs.ensures.value c.if-unsigned_abs-gt-LONGEST.true c.unless_unsound.ensures in
     record { number = r.0; output = r.1 }
 
-pub refusal-refused-requires : goal.refusal-refused-requires
-refusal-refused-requires c =
+pub refusal-requires : goal.refusal-requires
+refusal-requires c =
     let a = c.args in
     let g = sym (good-is a.model a.table.now a.variable a.shift a.out.now c.requires c.of-limits.ensures c.good.ensures) ∙ c.if-not-good.false in
     movable a.model a.table.now a.variable a.shift a.out.now c.requires c.of-limits.ensures g (to_z-of_z c.ranges.shift) c.moved-moved.ensures
 
-pub returns-then-refused-ne-DONE : goal.returns-then-refused-ne-DONE
-returns-then-refused-ne-DONE c =
+pub returns-in-Err : goal.returns-in-Err
+returns-in-Err c =
     let a = c.args in
     let g = sym (good-is a.model a.table.now a.variable a.shift a.out.now c.requires c.of-limits.ensures c.good.ensures) ∙ c.if-not-good.false in
-    let r = own-refused a.model a.table.now a.variable a.shift a.out.now c.requires (own_is a.model a.table.now a.variable a.shift a.out.now c.requires c.of-limits.ensures g (to_z-of_z c.ranges.shift) c.moved-moved.ensures c.refusal-refused.ensures) (positive c.if-refused-ne-DONE.true) c.unless_unsound-then-refused-ne-DONE.ensures in
+    let r = own-refused a.model a.table.now a.variable a.shift a.out.now c.requires (own_is a.model a.table.now a.variable a.shift a.out.now c.requires c.of-limits.ensures g (to_z-of_z c.ranges.shift) c.moved-moved.ensures c.in-Err.ensures) (refused-positive c.in-Err.refused) c.unless_unsound-in-Err.ensures in
     record { number = r.0; output = r.1 }
 
 pub write_moved-requires : goal.write_moved-requires
 write_moved-requires c =
     let a = c.args in
     let g = sym (good-is a.model a.table.now a.variable a.shift a.out.now c.requires c.of-limits.ensures c.good.ensures) ∙ c.if-not-good.false in
-    writable a.model a.table.now a.variable a.shift a.out.now c.requires c.of-limits.ensures g (to_z-of_z c.ranges.shift) c.moved-moved.ensures c.refusal-refused.ensures c.if-refused-ne-DONE.false
+    writable a.model a.table.now a.variable a.shift a.out.now c.requires c.of-limits.ensures g (to_z-of_z c.ranges.shift) c.moved-moved.ensures c.in_default.ensures refl
 
 pub returns : goal.returns
 returns c =
     let a = c.args in
     let g = sym (good-is a.model a.table.now a.variable a.shift a.out.now c.requires c.of-limits.ensures c.good.ensures) ∙ c.if-not-good.false in
-    let r = given a.model a.table.now a.variable a.shift a.out.now c.requires c.of-limits.ensures g (to_z-of_z c.ranges.shift) c.moved-moved.ensures c.refusal-refused.ensures c.if-refused-ne-DONE.false c.write_moved.ensures in
+    let r = given a.model a.table.now a.variable a.shift a.out.now c.requires c.of-limits.ensures g (to_z-of_z c.ranges.shift) c.moved-moved.ensures c.in_default.ensures refl c.write_moved.ensures in
     record { number = r.0; output = r.1 }

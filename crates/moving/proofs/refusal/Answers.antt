@@ -76,16 +76,16 @@ within_cap-requires c =
     let ok = sym (range-is a.model a.table.now a.variable a.shift a.moved c.requires c.good.ensures) ∙ c.if-not-good.false in
     checkable a.model a.table.now a.variable a.shift a.moved c.requires ok c.reaches.ensures (c.unsigned_abs.ensures.value ∙ ap nat_abs (to_z-of_z c.ranges.shift)) c.longer-reaches.ensures
 
-pub returns-then-within_cap : goal.returns-then-within_cap
-returns-then-within_cap c =
-    let a = c.args in
-    let ok = sym (range-is a.model a.table.now a.variable a.shift a.moved c.requires c.good.ensures) ∙ c.if-not-good.false in
-    let e = light-is a.model a.table.now a.variable a.shift a.moved c.requires ok c.reaches.ensures (c.unsigned_abs.ensures.value ∙ ap nat_abs (to_z-of_z c.ranges.shift)) c.longer-reaches.ensures c.within_cap.ensures in
-    sym (first-skip limit_past _ ok ∙ first-skip move_too_heavy [] (sym e ∙ c.if-within_cap.true) ∙ first-nothing)
-
 pub returns : goal.returns
 returns c =
     let a = c.args in
     let ok = sym (range-is a.model a.table.now a.variable a.shift a.moved c.requires c.good.ensures) ∙ c.if-not-good.false in
     let e = light-is a.model a.table.now a.variable a.shift a.moved c.requires ok c.reaches.ensures (c.unsigned_abs.ensures.value ∙ ap nat_abs (to_z-of_z c.ranges.shift)) c.longer-reaches.ensures c.within_cap.ensures in
-    sym (first-skip limit_past _ ok ∙ first-hit move_too_heavy [] (sym e ∙ c.if-within_cap.false))
+    sym (first-skip limit_past _ ok ∙ first-skip move_too_heavy [] (sym e ∙ c.if-not-within_cap.false) ∙ first-nothing)
+
+pub returns-then-not-within_cap : goal.returns-then-not-within_cap
+returns-then-not-within_cap c =
+    let a = c.args in
+    let ok = sym (range-is a.model a.table.now a.variable a.shift a.moved c.requires c.good.ensures) ∙ c.if-not-good.false in
+    let e = light-is a.model a.table.now a.variable a.shift a.moved c.requires ok c.reaches.ensures (c.unsigned_abs.ensures.value ∙ ap nat_abs (to_z-of_z c.ranges.shift)) c.longer-reaches.ensures c.within_cap.ensures in
+    sym (first-skip limit_past _ ok ∙ first-hit move_too_heavy [] (sym e ∙ c.if-not-within_cap.true))
