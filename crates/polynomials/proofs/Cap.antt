@@ -14,23 +14,23 @@ use lib.Dec.{leb}
 use Rattle.polynomials.specs.Limits.{cap, against, joint}
 use Rattle.polynomials.specs.Ready.{Reached}
 use Rattle.polynomials.specs.declared.Reach.{Reach}
-use Rattle.polynomials.specs.declared.Weighed.TheVariants.{Within, Passed}
+use Rattle.std.specs.Prelude.{Some, None}
 
-pub against-within : (n : ℕ) → n ≤ cap → Within n ≡ against n
-against-within n h = ap (λ (b : Bool). cond b (Within n) Passed) (sym (le-leb n cap h))
+pub against-within : (n : ℕ) → n ≤ cap → Some n ≡ against n
+against-within n h = ap (λ (b : Bool). cond b (Some n) None) (sym (le-leb n cap h))
 
-pub against-passed : (n : ℕ) → cap < n → Passed ≡ against n
-against-passed n h = ap (λ (b : Bool). cond b (Within n) Passed) (sym (lt-leb n cap h))
+pub against-passed : (n : ℕ) → cap < n → None ≡ against n
+against-passed n h = ap (λ (b : Bool). cond b (Some n) None) (sym (lt-leb n cap h))
 
 -- and back from what it is said to be
-pub within-against : (m n : ℕ) → Within m ≡ against n → (m ≡ n) × (n ≤ cap)
+pub within-against : (m n : ℕ) → Some m ≡ against n → (m ≡ n) × (n ≤ cap)
 within-against m n e = pick (dec_le n cap)
   where
     pick : Dec (n ≤ cap) → (m ≡ n) × (n ≤ cap)
     pick (yes h) = let f = against-within n h in (cc, h)
     pick (no h) = let f = against-passed n (omega arith) in let z : ◌≡◌ {A = ℕ} 0 1 = cc in absurd (omega arith)
 
-pub passed-against : (n : ℕ) → Passed ≡ against n → cap < n
+pub passed-against : (n : ℕ) → None ≡ against n → cap < n
 passed-against n e = pick (dec_le n cap)
   where
     pick : Dec (n ≤ cap) → cap < n
@@ -39,23 +39,23 @@ passed-against n e = pick (dec_le n cap)
 
 -- ════ two sums together
 module _ (a b : ℕ) where
-  tested : (x y : Bool) → leb a cap ≡ x → leb b cap ≡ y → joint a b ≡ cond (x && y) (Within (a + b)) Passed
-  tested x y e f = ap₂ (λ (x y : Bool). cond (x && y) (Within (a + b)) Passed) e f
+  tested : (x y : Bool) → leb a cap ≡ x → leb b cap ≡ y → joint a b ≡ cond (x && y) (Some (a + b)) None
+  tested x y e f = ap₂ (λ (x y : Bool). cond (x && y) (Some (a + b)) None) e f
 
-  pub joint-within : a ≤ cap → b ≤ cap → Within (a + b) ≡ joint a b
+  pub joint-within : a ≤ cap → b ≤ cap → Some (a + b) ≡ joint a b
   joint-within h k = sym (tested true true (le-leb a cap h) (le-leb b cap k))
 
-  pub joint-first : cap < a → Passed ≡ joint a b
+  pub joint-first : cap < a → None ≡ joint a b
   joint-first h = sym (tested false (leb b cap) (lt-leb a cap h) refl)
 
-  pub joint-second : cap < b → Passed ≡ joint a b
+  pub joint-second : cap < b → None ≡ joint a b
   joint-second h = pick (dec_le a cap)
     where
-      pick : Dec (a ≤ cap) → Passed ≡ joint a b
+      pick : Dec (a ≤ cap) → None ≡ joint a b
       pick (yes k) = sym (tested true false (le-leb a cap k) (lt-leb b cap h))
       pick (no k) = joint-first (omega arith)
 
-  pub within-joint : (m : ℕ) → Within m ≡ joint a b → m ≡ a + b
+  pub within-joint : (m : ℕ) → Some m ≡ joint a b → m ≡ a + b
   within-joint m e = pick (dec_le a cap) (dec_le b cap)
     where
       pick : Dec (a ≤ cap) → Dec (b ≤ cap) → m ≡ a + b
@@ -63,7 +63,7 @@ module _ (a b : ℕ) where
       pick (yes h) (no k) = let f = joint-second (omega arith) in let z : ◌≡◌ {A = ℕ} 0 1 = cc in absurd (omega arith)
       pick (no h) k = let f = joint-first (omega arith) in let z : ◌≡◌ {A = ℕ} 0 1 = cc in absurd (omega arith)
 
-  pub passed-joint : Passed ≡ joint a b → cap < a + b
+  pub passed-joint : None ≡ joint a b → cap < a + b
   passed-joint e = pick (dec_le a cap) (dec_le b cap)
     where
       pick : Dec (a ≤ cap) → Dec (b ≤ cap) → cap < a + b

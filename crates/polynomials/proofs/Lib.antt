@@ -11,6 +11,7 @@
 --   Together    law 7: any number of groups
 --   Downward    sums from the highest power down
 --   DownwardBounds   what such a sum stays within
+--   Turns       the loops that take numbers so, with any product
 --   Cap, Chains, MultipliedRows  what the code uses: a sum against the cap, the places of one variable's powers, the rows of a shift
 --   controls    computed facts beside the definitions
 pub mod Semiring
@@ -25,6 +26,7 @@ pub mod Bounds
 pub mod Together
 pub mod Downward
 pub mod DownwardBounds
+pub mod Turns
 pub mod Cap
 pub mod Chains
 pub mod MultipliedRows

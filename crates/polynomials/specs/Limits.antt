@@ -1,7 +1,5 @@
 -- The cap of every weight, and what a sum is against it.
-use Rattle.std.specs.Prelude.{cond, ◌&&◌, ℕ, ◌+◌, leb}
-use Rattle.polynomials.specs.declared.Weighed.{Weighed}
-use Rattle.polynomials.specs.declared.Weighed.TheVariants.{Within, Passed}
+use Rattle.std.specs.Prelude.{cond, ◌&&◌, ℕ, ◌+◌, leb, Option, Some, None}
 
 -- 9 × 10¹⁸
 abbrev pub cap : ℕ
@@ -16,9 +14,9 @@ abbrev pub highest_degree : ℕ
 highest_degree = 4
 
 -- the sum while it is within the cap
-abbrev pub against : ℕ → Weighed
-against n = cond (leb n cap) (Within n) Passed
+abbrev pub against : ℕ → Option ℕ
+against n = cond (leb n cap) (Some n) None
 
 -- two sums together, each within the cap; what they come to may pass it, and is less than 2⁶⁴
-abbrev pub joint : ℕ → ℕ → Weighed
-joint a b = cond (leb a cap && leb b cap) (Within (a + b)) Passed
+abbrev pub joint : ℕ → ℕ → Option ℕ
+joint a b = cond (leb a cap && leb b cap) (Some (a + b)) None

@@ -1,10 +1,24 @@
 -- What the code asks of its callers: groups of few enough numbers, and a weight within the cap, which bounds every sum and product on the way.
-use Rattle.std.specs.Prelude.{◌≡◌, List, ℕ, ◌+◌, ◌/◌, ◌≤◌, max, ℤ, nat_abs, length}
+use Rattle.std.specs.Prelude.{◌≡◌, List, ℕ, ◌+◌, ◌-◌, ◌/◌, ◌≤◌, ◌<◌, max, ℤ, nat_abs, ◌+ℤ◌, FitsSigned, length}
+use Rattle.std.specs.Int.{w64}
 use Rattle.polynomials.specs.Order.{size}
-use Rattle.polynomials.specs.Group.{own, weight}
+use Rattle.polynomials.specs.Numbers.{ints}
+use Rattle.polynomials.specs.Group.{own, number, weight}
+use Rattle.polynomials.specs.Downward.{down, row_downward}
 use Rattle.polynomials.specs.Limits.{cap, farthest, highest_degree}
 use Rattle.polynomials.specs.declared.Variable.{Variable}
 use Rattle.polynomials.specs.declared.Reach.{Reach}
+
+-- to take the numbers g 0 to g n from the highest power down: what is multiplied on the way may be, and what a number is added to fits with it
+pub record Formed (can : ℤ → ℤ → Type 0) (times : ℤ → ℤ → ℤ) (g : ℕ → ℤ) (x : ℤ) (n : ℕ) : Type 0 where
+  pub multiplied : (p : ℕ) → p < n → can (down ints times g x (n - (p + 1)) (p + 1)) x
+  pub added : (p : ℕ) → p < n → FitsSigned w64 (times (down ints times g x (n - (p + 1)) (p + 1)) x +ℤ g p)
+
+-- to take a group of degree d so: each row in u, and the rows
+pub record Followable (can : ℤ → ℤ → Type 0) (times : ℤ → ℤ → ℤ) (l : List ℤ) (d : ℕ) (x y : ℤ) : Type 0 where
+  pub low : d ≤ highest_degree
+  pub each : (q : ℕ) → q ≤ d → Formed can times (λ p. number ints l p q) x (d - q)
+  pub all : Formed can times (row_downward ints times d (number ints l) x) y d
 
 -- to read a group at x and y
 pub record Readable (l : List ℤ) (x y : ℤ) : Type 0 where

@@ -1,12 +1,13 @@
 // Polynomials in two variables u and v, held as slices of numbers in the order of `specs/Order.antt`.
 #![tactic(auto)]
 
-ghost use Rattle.std.specs.Prelude.{◌≡◌, ◌+◌, ◌*◌, ◌≤◌, pos, ◌*ℤ◌};
+ghost use Rattle.std.specs.Prelude.{◌≡◌, ◌+◌, ◌-◌, ◌*◌, ◌≤◌, ℤ, ◌*ℤ◌, FitsSigned};
+ghost use Rattle.std.specs.Int.{w64};
 ghost use Rattle.polynomials.specs.Numbers.{ints};
 ghost use Rattle.polynomials.specs.Group.{number, value, weight};
-ghost use Rattle.polynomials.specs.Downward.{row_downward, row_weight};
+ghost use Rattle.polynomials.specs.Downward.{row_downward, downward, row_weight};
 ghost use Rattle.polynomials.specs.Limits.{highest_degree, against, joint};
-ghost use Rattle.polynomials.specs.Ready.{Readable, Reached, Weighable};
+ghost use Rattle.polynomials.specs.Ready.{Formed, Followable, Readable, Reached, Weighable};
 
 // No weight may pass it: 9 x 10^18.
 pub const CAP: u64 = 9_000_000_000_000_000_000;
@@ -19,13 +20,6 @@ const HIGHEST_DEGREE: usize = 4;
 pub enum Variable {
     First,
     Second,
-}
-
-// A running sum of weights, until it passes the cap.
-#[derive(Clone, Copy)]
-pub enum Weighed {
-    Within(u64),
-    Passed,
 }
 
 // A reach, and the most that it can multiply within the cap.
@@ -67,74 +61,99 @@ pub fn number_at(group: &[i64], p: usize, q: usize) -> i64
     0
 }
 
+// A product of one's own: exact, or rounded each time.
+pub trait Product {
+    ghost times: { ℤ → ℤ → ℤ };
+
+    // What may be multiplied.
+    ghost can_times: { ℤ → ℤ → Type 0 };
+
+    fn times(a: i64, r: i64) -> i64
+        requires { can_times a r }
+        ensures { result ≡ times a r };
+}
+
+// The product of whole numbers.
+pub struct Exact;
+
+impl Product for Exact {
+    ghost times = { ◌*ℤ◌ };
+
+    ghost can_times = { λ a r. FitsSigned w64 (a *ℤ r) };
+
+    fn times(a: i64, r: i64) -> i64 {
+        a * r
+    }
+}
+
 // The numbers beside the power q of v, at the reading x: from the highest power of u down.
-fn row_at(group: &[i64], q: usize, x: i64) -> i64
-    requires { Readable group.now x (pos 0) × (q ≤ highest_degree) }
-    ensures { result ≡ row_downward ints ◌*ℤ◌ highest_degree (number ints group.now) x q }
+fn row_at<P: Product>(group: &[i64], degree: usize, q: usize, x: i64) -> i64
+    requires { (q ≤ degree) × ((degree ≤ highest_degree) × Formed P.can_times P.times (λ p. number ints group.now p q) x (degree - q)) }
+    ensures { result ≡ row_downward ints P.times degree (number ints group.now) x q }
 {
-    let mut p = HIGHEST_DEGREE - q;
-    let mut row = number_at(group, p, q);
-    while p > 0 {
-        p -= 1;
-        row = row * x + number_at(group, p, q);
+    let last = degree - q;
+    let mut row = number_at(group, last, q);
+    for p in (0..last).rev() {
+        row = P::times(row, x) + number_at(group, p, q);
     }
     row
 }
 
-// The value of a group at the readings x and y: its rows, from the highest power of v down.
-pub fn value_at(group: &[i64], x: i64, y: i64) -> i64
-    requires { Readable group.now x y }
-    ensures { result ≡ value group.now x y }
+// The rows of a group, from the highest power of v down.
+pub fn group_at<P: Product>(group: &[i64], degree: usize, x: i64, y: i64) -> i64
+    requires { Followable P.can_times P.times group.now degree x y }
+    ensures { result ≡ downward ints P.times degree (number ints group.now) x y }
 {
-    let mut q = HIGHEST_DEGREE;
-    let mut sum = row_at(group, q, x);
-    while q > 0 {
-        q -= 1;
-        sum = sum * y + row_at(group, q, x);
+    let mut sum = row_at::<P>(group, degree, degree, x);
+    for q in (0..degree).rev() {
+        sum = P::times(sum, y) + row_at::<P>(group, degree, q, x);
     }
     sum
 }
 
-// The sum times the reach v, and what the numbers beside the power q of v weigh at the reach u, together; or that one of the two passes
+// The value of a group at the readings x and y.
+pub fn value_at(group: &[i64], x: i64, y: i64) -> i64
+    requires { Readable group.now x y }
+    ensures { result ≡ value group.now x y }
+{
+    group_at::<Exact>(group, HIGHEST_DEGREE, x, y)
+}
+
+// The sum times the reach v, and what the numbers beside the power q of v weigh at the reach u, together; or nothing where one of the two passes
 // the cap. What a reach may multiply within the cap is known, so that nothing is formed that does not fit.
-pub fn add_row(sum: u64, group: &[i64], degree: usize, q: usize, u: Reach, v: Reach) -> Weighed
+pub fn add_row(sum: u64, group: &[i64], degree: usize, q: usize, u: Reach, v: Reach) -> Option<u64>
     requires { (q ≤ degree) × ((degree ≤ highest_degree) × (Reached u × Reached v)) }
     ensures { result ≡ joint (sum * v.size) (row_weight degree group.now u.size q) }
 {
     if sum > v.most {
-        return Weighed::Passed;
+        return None;
     }
-    let mut p = degree - q;
-    let mut row = whole::magnitude(number_at(group, p, q));
-    while p > 0 {
+    let last = degree - q;
+    let mut row = whole::magnitude(number_at(group, last, q));
+    for p in (0..last).rev() {
         if row > u.most {
-            return Weighed::Passed;
+            return None;
         }
-        p -= 1;
         row = row * u.size + whole::magnitude(number_at(group, p, q));
     }
     if row > CAP {
-        return Weighed::Passed;
+        return None;
     }
-    Weighed::Within(sum * v.size + row)
+    Some(sum * v.size + row)
 }
 
-// The weight of a group at the reaches u and v, or that it passes the cap: its rows, from the highest power of v down.
-pub fn weight_at(group: &[i64], degree: usize, u: Reach, v: Reach) -> Weighed
+// The weight of a group at the reaches u and v, or nothing where it passes the cap: its rows, from the highest power of v down.
+pub fn weight_at(group: &[i64], degree: usize, u: Reach, v: Reach) -> Option<u64>
     requires { Weighable group.now degree u v }
     ensures { result ≡ against (weight group.now u.size v.size) }
 {
+    let rows = degree + 1;
     let mut sum: u64 = 0;
-    let mut rows = degree + 1;
-    while rows > 0 {
-        rows -= 1;
-        let Weighed::Within(more) = add_row(sum, group, degree, rows, u, v) else {
-            return Weighed::Passed;
-        };
-        sum = more;
+    for q in (0..rows).rev() {
+        sum = add_row(sum, group, degree, q, u, v)?;
     }
     if sum > CAP {
-        return Weighed::Passed;
+        return None;
     }
-    Weighed::Within(sum)
+    Some(sum)
 }

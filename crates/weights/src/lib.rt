@@ -11,7 +11,8 @@ ghost use Rattle.layout.specs.Reaches.{reaches_of};
 ghost use Rattle.weights.specs.Ready.{high_in, AtLeastOne, Measured, GroupWeighable, Shareable, Checkable};
 
 use layout::{Kind, Model, REACHES_ROOM};
-use polynomials::{CAP, Reach, Weighed, add_row, weight_at};
+use polynomials::{CAP, Reach, add_row, weight_at};
+use std::array;
 
 // Low and high, each with a group of its own, which come first in a block.
 const PIECES: usize = 2;
@@ -21,18 +22,11 @@ fn all_reaches(sizes: [u64; REACHES_ROOM]) -> [Reach; REACHES_ROOM]
     requires { AtLeastOne sizes }
     ensures { Measured sizes result }
 {
-    let mut reaches = [Reach::of(1); REACHES_ROOM];
-    let mut k: usize = 0;
-    while k < REACHES_ROOM {
-        let reach = Reach::of(sizes[k]);
-        reaches[k] = reach;
-        k += 1;
-    }
-    reaches
+    array::from_fn(|k| Reach::of(sizes[k]))
 }
 
-// The weight of the group of a kind that starts at a place, at the reaches of the high piece, or that it passes the cap.
-fn weight_of(table: &[i64], at: usize, kind: Kind, reaches: [Reach; REACHES_ROOM]) -> Weighed
+// The weight of the group of a kind that starts at a place, at the reaches of the high piece, or nothing where it passes the cap.
+fn weight_of(table: &[i64], at: usize, kind: Kind, reaches: [Reach; REACHES_ROOM]) -> Option<u64>
     requires { GroupWeighable table.now at kind reaches }
     ensures { result ≡ against (weight_of (led kind (drop at table.now)) (high_in reaches)) }
 {
@@ -42,28 +36,24 @@ fn weight_of(table: &[i64], at: usize, kind: Kind, reaches: [Reach; REACHES_ROOM
     weight_at(&table[at..end], kind.degree, reaches[u], reaches[v])
 }
 
-// The weight of the groups that count in both pieces, of the block that starts at a place, or that it passes the cap.
-fn shared(model: Model, table: &[i64], start: usize, reaches: [Reach; REACHES_ROOM]) -> Weighed
+// The weight of the groups that count in both pieces, of the block that starts at a place, or nothing where it passes the cap.
+fn shared(model: Model, table: &[i64], start: usize, reaches: [Reach; REACHES_ROOM]) -> Option<u64>
     requires { Shareable (shape model) table.now start reaches }
     ensures { result ≡ against (total_weight (groups (shared (shape model)) (drop (shared_at (shape model) start) table.now)) (high_in reaches)) }
 {
     let own = shapes::kind(model, 0);
     let mut at = start + PIECES * shapes::size(own);
     let mut sum: u64 = 0;
-    let mut group: usize = PIECES;
-    while group < shapes::groups(model) {
+    for group in PIECES..shapes::groups(model) {
         let kind = shapes::kind(model, group);
-        let Weighed::Within(more) = weight_of(table, at, kind, reaches) else {
-            return Weighed::Passed;
-        };
+        let more = weight_of(table, at, kind, reaches)?;
         if more > CAP - sum {
-            return Weighed::Passed;
+            return None;
         }
         sum += more;
         at += shapes::size(kind);
-        group += 1;
     }
-    Weighed::Within(sum)
+    Some(sum)
 }
 
 // Whether every coefficient's weight in both pieces is within the cap, at reaches of the given sizes. It goes over the blocks, the pieces and their
@@ -83,7 +73,7 @@ pub fn within_cap(model: Model, table: &[i64], sizes: [u64; REACHES_ROOM]) -> bo
     let mut ok = true;
     'blocks: for block in 0..blocks {
         let start = shapes::start(model, block);
-        let Weighed::Within(both) = shared(model, table, start, reaches) else {
+        let Some(both) = shared(model, table, start, reaches) else {
             ok = false;
             break 'blocks;
         };
@@ -95,7 +85,7 @@ pub fn within_cap(model: Model, table: &[i64], sizes: [u64; REACHES_ROOM]) -> bo
             let mut sum: u64 = 0;
             for row in 0..rows {
                 let q = degree - row;
-                let Weighed::Within(more) = add_row(sum, group, degree, q, u, v) else {
+                let Some(more) = add_row(sum, group, degree, q, u, v) else {
                     ok = false;
                     break 'blocks;
                 };

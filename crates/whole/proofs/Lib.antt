@@ -6,7 +6,6 @@
 --   Solver      a normal form of polynomial expressions
 --   Identity    a polynomial identity in one line, by Solver
 --   Linear      a linear fact in one line, by `omega`
---   Turned      a negative number of 64 bits turned
 --   Nearest     a quotient rounded to the nearest whole number
 --   Down        a quotient rounded down
 --   Controls    what Identity and Linear prove, and what Solver refuses
@@ -17,7 +16,6 @@ pub mod Machine
 pub mod Solver
 pub mod Identity
 pub mod Linear
-pub mod Turned
 pub mod Nearest
 pub mod Down
 pub mod Controls

@@ -3,15 +3,11 @@
 ghost use Rattle.std.specs.Prelude.{◌≡◌, ◌+◌, ◌/◌, ◌^◌, ◌<◌, pos, nat_abs, ◌<ℤ◌};
 ghost use Rattle.whole.specs.Nearest.{nearest_away};
 
-// The distance of `x` from 0, at the least i64 too: its negation does not fit an i64, so the code negates `x + 1` and adds the 1 after the cast.
+// The distance of `x` from 0, at the least i64 too, whose negation does not fit an i64.
 pub fn magnitude(x: i64) -> u64
     ensures { result ≡ nat_abs x }
 {
-    if x < 0 {
-        (-(x + 1)) as u64 + 1
-    } else {
-        x as u64
-    }
+    x.unsigned_abs()
 }
 
 // z / m to the nearest whole number, a half away from zero: half of m is put on, away from zero, and the division cuts towards it.

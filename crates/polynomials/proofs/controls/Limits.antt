@@ -4,21 +4,21 @@ use mathlib.Core.List.{[], ◌∷◌}
 use Prim.Native.Nat.{◌*◌, ◌^◌, ◌<◌}
 use native.Mathlib.Omega.{arith}
 use Rattle.polynomials.specs.Limits.{cap, farthest, highest_degree, against, joint}
-use Rattle.polynomials.specs.declared.Weighed.TheVariants.{Within, Passed}
+use Rattle.std.specs.Prelude.{Some, None}
 
 cap-is : cap ≡ 9 * 10 ^ 18
 cap-is = refl
 
-meets : against cap ≡ Within 9000000000000000000
+meets : against cap ≡ Some 9000000000000000000
 meets = refl
 
-passes : against 9000000000000000001 ≡ Passed
+passes : against 9000000000000000001 ≡ None
 passes = refl
 
-both_meet : joint cap cap ≡ Within 18000000000000000000
+both_meet : joint cap cap ≡ Some 18000000000000000000
 both_meet = refl
 
-one_passes : joint 9000000000000000001 0 ∷ joint 0 9000000000000000001 ∷ [] ≡ Passed ∷ Passed ∷ []
+one_passes : joint 9000000000000000001 0 ∷ joint 0 9000000000000000001 ∷ [] ≡ None ∷ None ∷ []
 one_passes = refl
 
 -- the largest number that multiplying out gives, 2⁴ times the highest power of a shift at most, fits 64 bits

@@ -19,7 +19,7 @@ use Rattle.polynomials.specs.Downward.{row_weight}
 use Rattle.polynomials.specs.Limits.{cap, against}
 use Rattle.polynomials.specs.Ready.{Reached}
 use Rattle.polynomials.specs.declared.Reach.{Reach}
-use Rattle.polynomials.specs.declared.Weighed.{Weighed}
+use Rattle.std.specs.Prelude.{Option}
 use Rattle.polynomials.proofs.Cap.{within-against, passed-against, within-joint, passed-joint}
 use Rattle.polynomials.proofs.DownwardBounds.{rows_weight, rows_none, rows_more, rows-part, rows_all}
 use Rattle.layout.specs.declared.Kind.{Kind}
@@ -150,23 +150,23 @@ module _ (c : tie.After-start-start invariant-loop2 decreases-loop2 invariant-lo
   below : block < (S ready).blocks
   below = omega (arith, c.before.blocks-2-test.true, ready.blocks-blocks.ensures)
 
-shared-weight : (d : tie.After-start-start invariant-loop2 decreases-loop2 invariant-loop decreases-loop invariant-blocks2 decreases-blocks2) {w : Weighed}
+shared-weight : (d : tie.After-start-start invariant-loop2 decreases-loop2 invariant-loop decreases-loop invariant-blocks2 decreases-blocks2) {w : Option ℕ}
     → w ≡ against (total_weight (groups (shared (S (ready d))) (drop (shared_at (S (ready d)) d.start-start.result) (table (ready d)))) (high_in (reaches (ready d))))
     → w ≡ against (both_of (ready d) (block d))
 shared-weight d h =
     h ∙ ap (λ m. against (total_weight (groups (shared (S (ready d))) (drop (shared_at (S (ready d)) m) (table (ready d)))) (high_in (reaches (ready d))))) d.start-start.ensures
 
-shared-is : (c : tie.In-Within invariant-loop2 decreases-loop2 invariant-loop decreases-loop invariant-blocks2 decreases-blocks2) → let d = c.before.before in (c.in-Within.both ≡ both_of (ready d) (block d)) × (both_of (ready d) (block d) ≤ cap)
+shared-is : (c : tie.In-Some invariant-loop2 decreases-loop2 invariant-loop decreases-loop invariant-blocks2 decreases-blocks2) → let d = c.before.before in (c.in-Some.both ≡ both_of (ready d) (block d)) × (both_of (ready d) (block d) ≤ cap)
 shared-is c =
     let d = c.before.before in
-    within-against c.in-Within.both (both_of (ready d) (block d)) (shared-weight d c.in-Within.ensures)
+    within-against c.in-Some.both (both_of (ready d) (block d)) (shared-weight d c.in-Some.ensures)
 
 -- ════ at a piece: its own group and the rows of it
 module _ (g : tie.After-u-1 invariant-loop2 decreases-loop2 invariant-loop decreases-loop invariant-blocks2 decreases-blocks2) where
   abbrev at_pieces : tie.At-loop-piece invariant-loop2 decreases-loop2 invariant-loop decreases-loop invariant-blocks2 decreases-blocks2
   at_pieces = g.before.before
 
-  abbrev told : tie.In-Within invariant-loop2 decreases-loop2 invariant-loop decreases-loop invariant-blocks2 decreases-blocks2
+  abbrev told : tie.In-Some invariant-loop2 decreases-loop2 invariant-loop decreases-loop invariant-blocks2 decreases-blocks2
   told = at_pieces.before
 
   abbrev started : tie.After-start-start invariant-loop2 decreases-loop2 invariant-loop decreases-loop invariant-blocks2 decreases-blocks2
@@ -353,7 +353,7 @@ loop2-again : tie.Need-loop-row-preserved invariant-loop2 decreases-loop2 invari
 loop2-again c =
     let d = c.before in
     let u : q d ≡ degree (lent d) + 1 - ((at_rows d).loop-row.row + 1) = omega (arith, below-degree d) in
-    (omega (arith, below-degree d), within-joint (product d) (row d) c.in-Within-add_row.more c.in-Within-add_row.ensures ∙ more-is d ∙ ap (rest (lent d)) u, search rules)
+    (omega (arith, below-degree d), within-joint (product d) (row d) c.in-Some-add_row.more c.in-Some-add_row.ensures ∙ more-is d ∙ ap (rest (lent d)) u, search rules)
 
 sub-if1 : tie.Need-overflow_sub-both invariant-loop2 decreases-loop2 invariant-loop decreases-loop invariant-blocks2 decreases-blocks2
 sub-if1 c = let k = shared-is (told c.before.before.before) in omega (arith, k.0, k.1)
