@@ -141,8 +141,12 @@ impl Limits {
     fn others_good(self) -> bool
         ensures { result ≡ others_good (shape self.model) self.numbers }
     {
-        (1..VARIABLES_ROOM).all(|variable| variable >= shapes::variables(self.model)
-            || self.variable_good(variable))
+        for variable in 1..VARIABLES_ROOM {
+            if variable < shapes::variables(self.model) && !self.variable_good(variable) {
+                return false;
+            }
+        }
+        true
     }
 
     // Whether the cut is the fine cut divided by 1000 and rounded down.
