@@ -1,11 +1,9 @@
 -- What the program writes for what it reads: bytes in, bytes out.
-use Rattle.std.specs.Prelude.{cond, List, [], ◌∷◌, ◌++◌, ℕ, ◌+◌, ◌*◌, eqb, ℤ, pos, replicate}
+use Rattle.std.specs.Prelude.{cond, List, [], ◌∷◌, ◌++◌, Option, Some, None, ℕ, ◌+◌, ◌*◌, eqb, ℤ, pos, replicate}
 use Rattle.layout.specs.Shape.{cumulus}
 use Rattle.layout.specs.Reading.{readings, read_number, read_output}
 use Rattle.cumulus_page.specs.Published.{published}
 use Rattle.lines.specs.Line.{onto, parse}
-use Rattle.lines.specs.declared.Line.{Line}
-use Rattle.lines.specs.declared.Line.TheVariants.{Readings, Malformed}
 use Rattle.printing.specs.Spell.{decimal, spell, longest_number}
 
 -- ════ one answer
@@ -29,12 +27,10 @@ longest = longest_number + longest_values + 1
 abbrev pub zeros : List ℤ
 zeros = replicate cumulus.blocks (pos 0)
 
--- what a table answers to a line
-unfoldable pub line_answer : List ℤ → Line → List ℕ
-line_answer t Malformed = numbered 31 zeros
-line_answer t (Readings alpha beta xi eta zeta) =
-    let x = alpha ∷ beta ∷ xi ∷ eta ∷ zeta ∷ [] in
-    numbered (read_number cumulus t (readings x) zeros) (read_output cumulus t (readings x) zeros)
+-- what a table answers to a line: to its readings, or to none
+unfoldable pub line_answer : List ℤ → Option (List ℤ) → List ℕ
+line_answer t None = numbered 31 zeros
+line_answer t (Some x) = numbered (read_number cumulus t (readings x) zeros) (read_output cumulus t (readings x) zeros)
 
 -- ════ all of them
 -- the lines of an input: each ends at a newline, and a last one without it counts where it has a byte

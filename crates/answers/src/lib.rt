@@ -9,8 +9,8 @@ ghost use Rattle.tables.specs.Ready.{table_number};
 ghost use Rattle.answers.specs.Reading.{fresh, last_in, Feeding, LinePart, Taking, Taken};
 
 use layout::Model;
-use layout::cumulus_one::BLOCKS;
-use lines::{Line, State};
+use layout::cumulus_one::{BLOCKS, VARIABLES};
+use lines::State;
 use printing::{LONGEST_NUMBER, put_few, put_number};
 use tables::reading::read_known;
 use tables::soundness::refusal_of;
@@ -54,11 +54,9 @@ fn put_values(values: [i64; BLOCKS], out: &mut [u8], at: usize) -> usize
     ensures room { result ≤ at + longest_values }
 {
     let mut place = at;
-    let mut k: usize = 0;
-    while k < BLOCKS {
+    for value in values {
         out[place] = b' ';
-        place = put_number(values[k], out, place + 1);
-        k += 1;
+        place = put_number(value, out, place + 1);
     }
     place
 }
@@ -77,7 +75,13 @@ fn put_answer(number: u64, values: [i64; BLOCKS], out: &mut [u8], at: usize) -> 
 }
 
 // The answer of a table, whose own refusal is known, to a line, from the place `at` on; gives the place behind it.
-fn put_line(table: &[i64], refused: u64, line: Line, out: &mut [u8], at: usize) -> usize
+fn put_line(
+    table: &[i64],
+    refused: u64,
+    line: Option<[i64; VARIABLES]>,
+    out: &mut [u8],
+    at: usize,
+) -> usize
     requires { (refused ≡ table_number cumulus table.now) × (at + longest ≤ length out.old) }
     ensures place { result ≡ at + length (line_answer table.now line) }
     ensures output { out.new ≡ written out.old at (line_answer table.now line) }
@@ -85,17 +89,8 @@ fn put_line(table: &[i64], refused: u64, line: Line, out: &mut [u8], at: usize) 
 {
     let mut values = [0i64; BLOCKS];
     let number = match line {
-        Line::Malformed => MALFORMED,
-        Line::Readings {
-            alpha,
-            beta,
-            xi,
-            eta,
-            zeta,
-        } => {
-            let state = [alpha, beta, xi, eta, zeta];
-            read_known(Model::Cumulus, table, refused, state, &mut values)
-        }
+        None => MALFORMED,
+        Some(state) => read_known(Model::Cumulus, table, refused, state, &mut values),
     };
     put_answer(number, values, out, at)
 }
@@ -118,16 +113,17 @@ fn step_line(line: State, input: &[u8], from: usize) -> Part
     ensures { LinePart line input.now from result }
 {
     let mut state = line;
-    let mut end = from;
-    while end < input.len() {
+    for end in from..input.len() {
         let byte = input[end];
         if byte == b'\n' {
             return Part { line: state, end };
         }
         state = state.step(byte);
-        end += 1;
     }
-    Part { line: state, end }
+    Part {
+        line: state,
+        end: input.len(),
+    }
 }
 
 // Takes the input from the place `from` on up to the end of a line, which is answered from the place `at` on, or up to its own end.
@@ -173,10 +169,7 @@ pub fn feed(table: &[i64], reading: Reading, input: &[u8], out: &mut [u8]) -> Fe
         taken: 0,
         put: 0,
     };
-    while fed.taken < input.len() {
-        if out.len() - fed.put < LONGEST {
-            return fed;
-        }
+    while fed.taken < input.len() && out.len() - fed.put >= LONGEST {
         fed = take_line(table, refused, fed.reading, input, fed.taken, out, fed.put);
     }
     fed
@@ -189,13 +182,9 @@ pub fn finish(table: &[i64], reading: Reading, out: &mut [u8]) -> usize
     ensures output { out.new ≡ written out.old 0 (last_in table.now reading (length out.old)) }
     ensures room { result ≤ length out.old }
 {
-    if out.len() < LONGEST {
+    if out.len() < LONGEST || !reading.begun {
         return 0;
     }
-    let line = reading.line;
-    if reading.begun {
-        let refused = refusal_of(Model::Cumulus, table);
-        return put_line(table, refused, line.finish(), out, 0);
-    }
-    0
+    let refused = refusal_of(Model::Cumulus, table);
+    put_line(table, refused, reading.line.finish(), out, 0)
 }

@@ -3,15 +3,13 @@
 use mathlib.Core.Path.{◌≡◌, refl, sym, ap, ap₂, subst, ◌∙◌}
 use mathlib.Core.Bool.{Bool, true, false, cond, not, ◌&&◌}
 use mathlib.Core.List.{List, [], ◌∷◌, ◌++◌, map, append_assoc}
-use mathlib.Core.Option.{Option, none, some}
 use Prim.Native.Nat.{ℕ, zero, suc, ◌+◌, ◌*◌, ◌-◌, ◌^◌, ◌<◌, ◌≤◌}
 use native.Mathlib.Omega.{arith}
 use borrow.Author.Tests.{eqb-true, eqb-false, leb-true, leb-false, ltb-true, ltb-false, ne_eqb}
 use lib.Dec.{T, leb, ltb, eqb}
 use lib.IntN.{ℤ}
 use lib.ListN.{length, drop}
-use Rattle.lines.specs.declared.Line.{Line}
-use Rattle.lines.specs.declared.Line.TheVariants.{Readings, Malformed}
+use Rattle.std.specs.Prelude.{Option, Some, None}
 use Rattle.lines.specs.declared.State.{State}
 use Rattle.lines.specs.Line.{onto, words, is_digit, signed, number, with, all_numbers, five, parse}
 use Rattle.lines.specs.State.{one_digit, four_digits, number_of, start, refused, shifted, ended, negated, minus, with_digit, digit, stepped, stepped_by, finished}
@@ -50,38 +48,38 @@ has_first (b ∷ bs) = by (eqb b 32) (words bs) where
 
 -- ════ the numbers: those that are held, and those to come
 joined : List ℤ → Option (List ℤ) → Option (List ℤ)
-joined xs none = none
-joined xs (some ys) = some (xs ++ ys)
+joined xs None = None
+joined xs (Some ys) = Some (xs ++ ys)
 
 -- the line, with the numbers of the words that have ended, that of the next, and the words behind it
-line : List ℤ → Option ℤ → List (List ℕ) → Line
+line : List ℤ → Option ℤ → List (List ℕ) → Option (List ℤ)
 line xs x ws = five (joined xs (with x (all_numbers (map number ws))))
 
-line-none : (xs : List ℤ) (ws : List (List ℕ)) → line xs none ws ≡ Malformed
+line-none : (xs : List ℤ) (ws : List (List ℕ)) → line xs None ws ≡ None
 unfolding line joined
 line-none xs ws = refl
 
-joined-more : (xs : List ℤ) (x : ℤ) (r : Option (List ℤ)) → joined xs (with (some x) r) ≡ joined (xs ++ x ∷ []) r
+joined-more : (xs : List ℤ) (x : ℤ) (r : Option (List ℤ)) → joined xs (with (Some x) r) ≡ joined (xs ++ x ∷ []) r
 unfolding joined
-joined-more xs x none = refl
-joined-more xs x (some ys) = ap some (sym (append_assoc xs (x ∷ []) ys))
+joined-more xs x None = refl
+joined-more xs x (Some ys) = ap Some (sym (append_assoc xs (x ∷ []) ys))
 
-line-more : (xs : List ℤ) (x : ℤ) (w : List ℕ) (ws : List (List ℕ)) → line xs (some x) (w ∷ ws) ≡ line (xs ++ x ∷ []) (number w) ws
+line-more : (xs : List ℤ) (x : ℤ) (w : List ℕ) (ws : List (List ℕ)) → line xs (Some x) (w ∷ ws) ≡ line (xs ++ x ∷ []) (number w) ws
 unfolding line
 line-more xs x w ws = ap five (joined-more xs x (all_numbers (map number (w ∷ ws))))
 
 -- six words are too many
-six : (a b c d e f : ℤ) (xs : List ℤ) → five (some (a ∷ b ∷ c ∷ d ∷ e ∷ f ∷ xs)) ≡ Malformed
+six : (a b c d e f : ℤ) (xs : List ℤ) → five (Some (a ∷ b ∷ c ∷ d ∷ e ∷ f ∷ xs)) ≡ None
 six a b c d e f xs =
-    ap (λ t. cond t (Readings a b c d e) Malformed) (ne_eqb (length (a ∷ b ∷ c ∷ d ∷ e ∷ f ∷ xs)) 5 (λ h. omega arith))
+    ap (λ t. cond t (Some (a ∷ b ∷ c ∷ d ∷ e ∷ f ∷ xs)) None) (ne_eqb (length (a ∷ b ∷ c ∷ d ∷ e ∷ f ∷ xs)) 5 (λ h. omega arith))
 
-line-six : (a b c d x : ℤ) (w : List ℕ) (ws : List (List ℕ)) → line (a ∷ b ∷ c ∷ d ∷ []) (some x) (w ∷ ws) ≡ Malformed
+line-six : (a b c d x : ℤ) (w : List ℕ) (ws : List (List ℕ)) → line (a ∷ b ∷ c ∷ d ∷ []) (Some x) (w ∷ ws) ≡ None
 unfolding line joined
 line-six a b c d x w ws = by (number w) (all_numbers (map number ws)) where
-  by : (y : Option ℤ) (r : Option (List ℤ)) → five (joined (a ∷ b ∷ c ∷ d ∷ []) (with (some x) (with y r))) ≡ Malformed
-  by none r = refl
-  by (some y) none = refl
-  by (some y) (some ys) = six a b c d x y ys
+  by : (y : Option ℤ) (r : Option (List ℤ)) → five (joined (a ∷ b ∷ c ∷ d ∷ []) (with (Some x) (with y r))) ≡ None
+  by None r = refl
+  by (Some y) None = refl
+  by (Some y) (Some ys) = six a b c d x y ys
 
 -- ════ what a state holds
 held : ℕ → ℤ → ℤ → ℤ → ℤ → List ℤ
@@ -96,14 +94,14 @@ held_more (suc (suc (suc zero))) a b c d x h = refl
 held_more (suc (suc (suc (suc n)))) a b c d x h = absurd (omega arith)
 
 -- fewer words than five, and none to come
-line-few : (words : ℕ) (a b c d : ℤ) (x : Option ℤ) → words < 4 → line (held words a b c d) x [] ≡ Malformed
+line-few : (words : ℕ) (a b c d : ℤ) (x : Option ℤ) → words < 4 → line (held words a b c d) x [] ≡ None
 unfolding line held joined
-line-few words a b c d none h = refl
-line-few zero a b c d (some x) h = refl
-line-few (suc zero) a b c d (some x) h = refl
-line-few (suc (suc zero)) a b c d (some x) h = refl
-line-few (suc (suc (suc zero))) a b c d (some x) h = refl
-line-few (suc (suc (suc (suc n)))) a b c d (some x) h = absurd (omega arith)
+line-few words a b c d None h = refl
+line-few zero a b c d (Some x) h = refl
+line-few (suc zero) a b c d (Some x) h = refl
+line-few (suc (suc zero)) a b c d (Some x) h = refl
+line-few (suc (suc (suc zero))) a b c d (Some x) h = refl
+line-few (suc (suc (suc (suc n)))) a b c d (Some x) h = absurd (omega arith)
 
 -- what the bytes of a line leave a state in, where they may be the start of a good line: k digits of the value v in the word that has not ended
 record Good (s : State) (k v : ℕ) : Type 0 where
@@ -114,10 +112,10 @@ abbrev negative : State → Bool
 negative s = ltb 0 s.minus
 
 -- the line that a state and the bytes to come make
-line_from : State → ℕ → ℕ → List ℕ → List (List ℕ) → Line
+line_from : State → ℕ → ℕ → List ℕ → List (List ℕ) → Option (List ℤ)
 line_from s k v w ws = line (held s.words s.alpha s.beta s.xi s.eta) (rest (negative s) k v w) ws
 
-spoilt : (s : State) (k v : ℕ) (w : List ℕ) (ws : List (List ℕ)) → rest (negative s) k v w ≡ none → line_from s k v w ws ≡ Malformed
+spoilt : (s : State) (k v : ℕ) (w : List ℕ) (ws : List (List ℕ)) → rest (negative s) k v w ≡ None → line_from s k v w ws ≡ None
 unfolding line_from
 spoilt s k v w ws e =
     ap (λ x. line (held s.words s.alpha s.beta s.xi s.eta) x ws) e
@@ -137,7 +135,7 @@ step-malformed s b e =
     (either (eqb b 32) (ended s) _ (either (ltb s.digits one_digit) (refused s) _ refl (no_shift s e))
     (either (eqb b 45) (minus s) (refused s) (either (ltb 0 s.minus) (refused s) _ refl (either (leb one_digit s.digits) (refused s) (negated s) refl e)) refl))
 
-malformed : (s : State) (bs : List ℕ) → s.words ≡ 5 → finished (stepped_by s bs) ≡ Malformed
+malformed : (s : State) (bs : List ℕ) → s.words ≡ 5 → finished (stepped_by s bs) ≡ None
 malformed s [] e = simp e
 malformed s (b ∷ bs) e = malformed (stepped s b) bs (step-malformed s b e)
 
@@ -172,7 +170,7 @@ module _ (bs : List ℕ) (ih : (s : State) (k v : ℕ) → Good s k v → finish
   abbrev H : List ℤ
   H = held s.words s.alpha s.beta s.xi s.eta
 
-  stopped : (w : List ℕ) (ws : List (List ℕ)) → tail w ≡ none → finished (stepped_by (refused s) bs) ≡ line_from s k v w ws
+  stopped : (w : List ℕ) (ws : List (List ℕ)) → tail w ≡ None → finished (stepped_by (refused s) bs) ≡ line_from s k v w ws
   stopped w ws e = malformed (refused s) bs refl ∙ sym (spoilt s k v w ws e)
 
   taken : (r : State) (k' v' b : ℕ) → Good r k' v' → held r.words r.alpha r.beta r.xi r.eta ≡ H
@@ -188,7 +186,7 @@ module _ (bs : List ℕ) (ih : (s : State) (k v : ℕ) → Good s k v → finish
       let e : s.words ≡ 4 = omega (arith, good.words-few) in
       ap (λ n. drop (4 - n) (s.alpha ∷ s.beta ∷ s.xi ∷ s.eta ∷ [])) e
 
-  ended-line : 0 < k → line_from s k v [] (words bs) ≡ line H (some (signed (negative s) v)) (first (words bs) ∷ others (words bs))
+  ended-line : 0 < k → line_from s k v [] (words bs) ≡ line H (Some (signed (negative s) v)) (first (words bs) ∷ others (words bs))
   unfolding line_from
   ended-line h = ap₂ (line H) (rest_end (negative s) k v h good.digits.few) (has_first bs)
 
@@ -207,7 +205,7 @@ module _ (bs : List ℕ) (ih : (s : State) (k v : ℕ) → Good s k v → finish
       stopped [] (words bs) (ap (λ k. rest (negative s) k v []) (none_yet k good.digits (ltb-true s.digits one_digit e)) ∙ rest-empty (negative s) v)
   at-space false true e f =
       malformed (refused s) bs refl
-      ∙ sym (ended-line (has-digit k good.digits (ltb-false s.digits one_digit e)) ∙ ap (λ h. line h (some (signed (negative s) v)) (first (words bs) ∷ others (words bs))) (fifth (leb-true 4 s.words f)) ∙ line-six _ _ _ _ _ _ _)
+      ∙ sym (ended-line (has-digit k good.digits (ltb-false s.digits one_digit e)) ∙ ap (λ h. line h (Some (signed (negative s) v)) (first (words bs) ∷ others (words bs))) (fifth (leb-true 4 s.words f)) ∙ line-six _ _ _ _ _ _ _)
   at-space false false e f =
       let l = leb-false 4 s.words f in
       ih (shifted s) 0 0 (record { words-few = omega arith; digits = empty }) ∙ next-line (has-digit k good.digits (ltb-false s.digits one_digit e)) l
@@ -261,23 +259,23 @@ module _ (bs : List ℕ) (ih : (s : State) (k v : ℕ) → Good s k v → finish
 
 -- ════ every byte
 module _ (s : State) (k v : ℕ) (good : Good s k v) where
-  whole : s.words ≡ 4 → 0 < k → line_from s k v [] [] ≡ Readings s.alpha s.beta s.xi s.eta (signed (negative s) v)
+  whole : s.words ≡ 4 → 0 < k → line_from s k v [] [] ≡ Some (s.alpha ∷ s.beta ∷ s.xi ∷ s.eta ∷ signed (negative s) v ∷ [])
   unfolding line_from line joined held
   whole e h =
       ap₂ (λ n y. line (held n s.alpha s.beta s.xi s.eta) y []) e (rest_end (negative s) k v h good.digits.few)
 
-  few : (s.words ≡ 4 → ⊥) → line_from s k v [] [] ≡ Malformed
+  few : (s.words ≡ 4 → ⊥) → line_from s k v [] [] ≡ None
   unfolding line_from
   few h =
       line-few s.words s.alpha s.beta s.xi s.eta (rest (negative s) k v []) (below s.words good.words-few h)
 
   no_more : (t u : Bool) → eqb s.words 4 ≡ t → ltb s.digits one_digit ≡ u
-      → cond (not t) Malformed (cond u Malformed (Readings s.alpha s.beta s.xi s.eta (number_of s.minus s.digits))) ≡ line_from s k v [] []
+      → cond (not t) None (cond u None (Some (s.alpha ∷ s.beta ∷ s.xi ∷ s.eta ∷ number_of s.minus s.digits ∷ []))) ≡ line_from s k v [] []
   no_more false u e f = sym (few (eqb-false s.words 4 e))
   no_more true true e f =
       sym (spoilt s k v [] [] (ap (λ k. rest (negative s) k v []) (none_yet k good.digits (ltb-true s.digits one_digit f)) ∙ rest-empty (negative s) v))
   no_more true false e f =
-      ap (λ n. Readings s.alpha s.beta s.xi s.eta (signed (negative s) n)) (value good.digits)
+      ap (λ n. Some (s.alpha ∷ s.beta ∷ s.xi ∷ s.eta ∷ signed (negative s) n ∷ [])) (value good.digits)
       ∙ sym (whole (eqb-true s.words 4 e) (has-digit k good.digits (ltb-false s.digits one_digit f)))
 
 from : (bs : List ℕ) (s : State) (k v : ℕ) → Good s k v → finished (stepped_by s bs) ≡ line_from s k v (first (words bs)) (others (words bs))
@@ -290,8 +288,8 @@ start-good = record { words-few = omega arith; digits = empty }
 
 joined-none : (r : Option (List ℤ)) → joined [] r ≡ r
 unfolding joined
-joined-none none = refl
-joined-none (some xs) = refl
+joined-none None = refl
+joined-none (Some xs) = refl
 
 pub parsed : (bs : List ℕ) → finished (stepped_by start bs) ≡ parse bs
 unfolding parse line_from line held

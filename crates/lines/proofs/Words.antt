@@ -6,7 +6,6 @@
 use mathlib.Core.Path.{◌≡◌, refl, sym, ap, ◌∙◌}
 use mathlib.Core.Bool.{Bool, true, false, cond, ◌&&◌}
 use mathlib.Core.List.{List, [], ◌∷◌}
-use mathlib.Core.Option.{Option, none, some}
 use Prim.Native.Nat.{ℕ, zero, suc, ◌+◌, ◌*◌, ◌-◌, ◌^◌, ◌<◌, ◌≤◌}
 use native.Mathlib.Nat.{zero-add}
 use native.Mathlib.Omega.{arith}
@@ -14,6 +13,7 @@ use borrow.Author.Tests.{le-leb, lt-leb, eqb-true}
 use lib.Dec.{leb, eqb}
 use lib.IntN.{ℤ}
 use lib.ListN.{length}
+use Rattle.std.specs.Prelude.{Option, Some, None}
 use Rattle.lines.specs.Line.{is_digit, all_digits, digits_value, signed, unsigned, number}
 
 -- n digits in all, of which those to come are good
@@ -22,7 +22,7 @@ counted good n = good && (leb 1 n && leb n 4)
 
 -- behind a sign and k digits
 abbrev more : Bool → ℕ → ℕ → List ℕ → Option ℤ
-more negative k v bs = cond (counted (all_digits bs) (k + length bs)) (some (signed negative (digits_value v bs))) none
+more negative k v bs = cond (counted (all_digits bs) (k + length bs)) (Some (signed negative (digits_value v bs))) None
 
 -- a minus is taken where the word is empty
 abbrev pub rest : Bool → ℕ → ℕ → List ℕ → Option ℤ
@@ -38,30 +38,30 @@ and-false false = refl
 more-digit : (negative : Bool) (k v b : ℕ) (bs : List ℕ) → is_digit b ≡ true → more negative k v (b ∷ bs) ≡ more negative (k + 1) (v * 10 + (b - 48)) bs
 more-digit negative k v b bs e =
     let n : k + suc (length bs) ≡ k + 1 + length bs = omega arith in
-    ap (λ t. cond (counted (t && all_digits bs) (k + suc (length bs))) (some (signed negative (digits_value v (b ∷ bs)))) none) e
-    ∙ ap (λ n. cond (counted (all_digits bs) n) (some (signed negative (digits_value v (b ∷ bs)))) none) n
+    ap (λ t. cond (counted (t && all_digits bs) (k + suc (length bs))) (Some (signed negative (digits_value v (b ∷ bs)))) None) e
+    ∙ ap (λ n. cond (counted (all_digits bs) n) (Some (signed negative (digits_value v (b ∷ bs)))) None) n
 
-more-full : (negative : Bool) (k v b : ℕ) (bs : List ℕ) → 4 ≤ k → more negative k v (b ∷ bs) ≡ none
+more-full : (negative : Bool) (k v b : ℕ) (bs : List ℕ) → 4 ≤ k → more negative k v (b ∷ bs) ≡ None
 more-full negative k v b bs h =
     let past : leb (k + suc (length bs)) 4 ≡ false = lt-leb (k + suc (length bs)) 4 (omega arith) in
-    ap (λ t. cond (all_digits (b ∷ bs) && (leb 1 (k + suc (length bs)) && t)) (some (signed negative (digits_value v (b ∷ bs)))) none) past
-    ∙ ap (λ t. cond (all_digits (b ∷ bs) && t) (some (signed negative (digits_value v (b ∷ bs)))) none) (and-false (leb 1 (k + suc (length bs))))
-    ∙ ap (λ t. cond t (some (signed negative (digits_value v (b ∷ bs)))) none) (and-false (all_digits (b ∷ bs)))
+    ap (λ t. cond (all_digits (b ∷ bs) && (leb 1 (k + suc (length bs)) && t)) (Some (signed negative (digits_value v (b ∷ bs)))) None) past
+    ∙ ap (λ t. cond (all_digits (b ∷ bs) && t) (Some (signed negative (digits_value v (b ∷ bs)))) None) (and-false (leb 1 (k + suc (length bs))))
+    ∙ ap (λ t. cond t (Some (signed negative (digits_value v (b ∷ bs)))) None) (and-false (all_digits (b ∷ bs)))
 
-more-other : (negative : Bool) (k v b : ℕ) (bs : List ℕ) → is_digit b ≡ false → more negative k v (b ∷ bs) ≡ none
+more-other : (negative : Bool) (k v b : ℕ) (bs : List ℕ) → is_digit b ≡ false → more negative k v (b ∷ bs) ≡ None
 more-other negative k v b bs e =
-    ap (λ t. cond (counted (t && all_digits bs) (k + suc (length bs))) (some (signed negative (digits_value v (b ∷ bs)))) none) e
+    ap (λ t. cond (counted (t && all_digits bs) (k + suc (length bs))) (Some (signed negative (digits_value v (b ∷ bs)))) None) e
 
-more-end : (negative : Bool) (k v : ℕ) → 0 < k → k ≤ 4 → more negative k v [] ≡ some (signed negative v)
+more-end : (negative : Bool) (k v : ℕ) → 0 < k → k ≤ 4 → more negative k v [] ≡ Some (signed negative v)
 more-end negative k v h l =
     let low : leb 1 (k + 0) ≡ true = le-leb 1 (k + 0) (omega arith) in
     let high : leb (k + 0) 4 ≡ true = le-leb (k + 0) 4 (omega arith) in
-    ap (λ t. cond (t && leb (k + 0) 4) (some (signed negative v)) none) low ∙ ap (λ t. cond t (some (signed negative v)) none) high
+    ap (λ t. cond (t && leb (k + 0) 4) (Some (signed negative v)) None) low ∙ ap (λ t. cond t (Some (signed negative v)) None) high
 
 -- ════ a word as the paper has it
 from-none : (negative : Bool) (bs : List ℕ) → unsigned negative bs ≡ more negative 0 0 bs
 from-none negative bs =
-    ap (λ n. cond (counted (all_digits bs) n) (some (signed negative (digits_value 0 bs))) none) (sym (zero-add (length bs)))
+    ap (λ n. cond (counted (all_digits bs) n) (Some (signed negative (digits_value 0 bs))) None) (sym (zero-add (length bs)))
 
 number-minus : (b : ℕ) (bs : List ℕ) → eqb b 45 ≡ true → number (b ∷ bs) ≡ more true 0 0 bs
 number-minus b bs e = ap (λ t. cond t (unsigned true bs) (unsigned false (b ∷ bs))) e ∙ from-none true bs
@@ -90,10 +90,10 @@ module _ (negative : Bool) (k v b : ℕ) (bs : List ℕ) where
       ∙ more-digit negative k v b bs d
       ∙ sym (rest-begun negative (k + 1) (v * 10 + (b - 48)) bs (omega arith))
 
-  pub rest-full : v < 10 ^ k → eqb b 45 ≡ false → 4 ≤ k → rest negative k v (b ∷ bs) ≡ none
+  pub rest-full : v < 10 ^ k → eqb b 45 ≡ false → 4 ≤ k → rest negative k v (b ∷ bs) ≡ None
   rest-full h e l = rest_plain negative k v b bs h e ∙ more-full negative k v b bs l
 
-  pub rest-other : v < 10 ^ k → eqb b 45 ≡ false → is_digit b ≡ false → rest negative k v (b ∷ bs) ≡ none
+  pub rest-other : v < 10 ^ k → eqb b 45 ≡ false → is_digit b ≡ false → rest negative k v (b ∷ bs) ≡ None
   rest-other h e d = rest_plain negative k v b bs h e ∙ more-other negative k v b bs d
 
 pub rest-minus : (v b : ℕ) (bs : List ℕ) → v < 10 ^ 0 → eqb b 45 ≡ true → rest false 0 v (b ∷ bs) ≡ rest true 0 v bs
@@ -103,16 +103,16 @@ rest-minus v b bs h e = number-minus b bs e ∙ ap (λ u. more true 0 u bs) (no_
 no_digit : (b : ℕ) → eqb b 45 ≡ true → is_digit b ≡ false
 no_digit b e = ap is_digit (eqb-true b 45 e)
 
-pub rest-twice : (k v b : ℕ) (bs : List ℕ) → eqb b 45 ≡ true → rest true k v (b ∷ bs) ≡ none
+pub rest-twice : (k v b : ℕ) (bs : List ℕ) → eqb b 45 ≡ true → rest true k v (b ∷ bs) ≡ None
 rest-twice k v b bs e = more-other true k v b bs (no_digit b e)
 
-pub rest-late : (negative : Bool) (k v b : ℕ) (bs : List ℕ) → 0 < k → eqb b 45 ≡ true → rest negative k v (b ∷ bs) ≡ none
+pub rest-late : (negative : Bool) (k v b : ℕ) (bs : List ℕ) → 0 < k → eqb b 45 ≡ true → rest negative k v (b ∷ bs) ≡ None
 rest-late negative k v b bs h e =
     rest-begun negative k v (b ∷ bs) h ∙ more-other negative k v b bs (no_digit b e)
 
-pub rest-empty : (negative : Bool) (v : ℕ) → rest negative 0 v [] ≡ none
+pub rest-empty : (negative : Bool) (v : ℕ) → rest negative 0 v [] ≡ None
 rest-empty true v = refl
 rest-empty false v = refl
 
-pub rest_end : (negative : Bool) (k v : ℕ) → 0 < k → k ≤ 4 → rest negative k v [] ≡ some (signed negative v)
+pub rest_end : (negative : Bool) (k v : ℕ) → 0 < k → k ≤ 4 → rest negative k v [] ≡ Some (signed negative v)
 rest_end negative k v h l = rest-begun negative k v [] h ∙ more-end negative k v h l

@@ -1,9 +1,6 @@
 -- What a line of readings is: five numbers parted by single spaces and nothing else, each an optional minus and one to four digits.
 -- The bytes are those between two newlines; a newline is not among them.
-use Rattle.std.specs.Prelude.{Bool, true, false, cond, ◌&&◌, List, [], ◌∷◌, map, ℕ, ◌+◌, ◌*◌, ◌-◌, leb, eqb, ℤ, pos, neg_ℤ, length, get_or}
-use Rattle.std.proofs.Math.Option.{Option, none, some}
-use Rattle.lines.specs.declared.Line.{Line}
-use Rattle.lines.specs.declared.Line.TheVariants.{Readings, Malformed}
+use Rattle.std.specs.Prelude.{Bool, true, false, cond, ◌&&◌, List, [], ◌∷◌, map, ℕ, ◌+◌, ◌*◌, ◌-◌, leb, eqb, ℤ, pos, neg_ℤ, length, Option, Some, None}
 
 -- ════ words: the parts of a line between its spaces, one more than there are spaces, an empty one where two spaces meet
 abbrev pub onto : ℕ → List (List ℕ) → List (List ℕ)
@@ -36,27 +33,27 @@ signed negative n = cond negative (neg_ℤ (pos n)) (pos n)
 -- one to four digits and nothing else, behind the minus where there is one
 abbrev pub unsigned : Bool → List ℕ → Option ℤ
 unsigned negative bs =
-    cond (all_digits bs && (leb 1 (length bs) && leb (length bs) 4)) (some (signed negative (digits_value 0 bs))) none
+    cond (all_digits bs && (leb 1 (length bs) && leb (length bs) 4)) (Some (signed negative (digits_value 0 bs))) None
 
 abbrev pub number : List ℕ → Option ℤ
-number [] = none
+number [] = None
 number (b ∷ bs) = cond (eqb b 45) (unsigned true bs) (unsigned false (b ∷ bs))
 
 -- ════ the line
 abbrev pub with : Option ℤ → Option (List ℤ) → Option (List ℤ)
-with none xs = none
-with (some x) none = none
-with (some x) (some xs) = some (x ∷ xs)
+with None xs = None
+with (Some x) None = None
+with (Some x) (Some xs) = Some (x ∷ xs)
 
 -- all the numbers, where every word is one
 abbrev pub all_numbers : List (Option ℤ) → Option (List ℤ)
-all_numbers [] = some []
+all_numbers [] = Some []
 all_numbers (x ∷ xs) = with x (all_numbers xs)
 
-abbrev pub five : Option (List ℤ) → Line
-five none = Malformed
-five (some xs) =
-    cond (eqb (length xs) 5) (Readings (get_or xs 0 (pos 0)) (get_or xs 1 (pos 0)) (get_or xs 2 (pos 0)) (get_or xs 3 (pos 0)) (get_or xs 4 (pos 0))) Malformed
+-- the five readings, where the line has five numbers
+abbrev pub five : Option (List ℤ) → Option (List ℤ)
+five None = None
+five (Some xs) = cond (eqb (length xs) 5) (Some xs) None
 
-unfoldable pub parse : List ℕ → Line
+unfoldable pub parse : List ℕ → Option (List ℤ)
 parse bytes = five (all_numbers (map number (words bytes)))

@@ -1,8 +1,6 @@
 -- What the reading of a line knows after each byte. That it ends in what `Line` says of the whole line is shown in `proofs/Parsed`.
-use Rattle.std.specs.Prelude.{cond, not, List, [], ◌∷◌, ℕ, ◌+◌, ◌*◌, ◌-◌, ◌%◌, leb, ltb, eqb, ℤ, pos}
+use Rattle.std.specs.Prelude.{cond, not, List, [], ◌∷◌, Option, Some, None, ℕ, ◌+◌, ◌*◌, ◌-◌, ◌%◌, leb, ltb, eqb, ℤ, pos}
 use Rattle.lines.specs.Line.{is_digit, signed}
-use Rattle.lines.specs.declared.Line.{Line}
-use Rattle.lines.specs.declared.Line.TheVariants.{Readings, Malformed}
 use Rattle.lines.specs.declared.State.{State}
 
 -- ════ the digits of a word in one number: k digits of the value v are 65536 * 10 ^ k + v
@@ -58,7 +56,7 @@ abbrev pub stepped_by : State → List ℕ → State
 stepped_by s [] = s
 stepped_by s (b ∷ bs) = stepped_by (stepped s b) bs
 
-abbrev pub finished : State → Line
+abbrev pub finished : State → Option (List ℤ)
 finished s =
-    cond (not (eqb s.words 4)) Malformed
-    (cond (ltb s.digits one_digit) Malformed (Readings s.alpha s.beta s.xi s.eta (number_of s.minus s.digits)))
+    cond (not (eqb s.words 4)) None
+    (cond (ltb s.digits one_digit) None (Some (s.alpha ∷ s.beta ∷ s.xi ∷ s.eta ∷ number_of s.minus s.digits ∷ [])))

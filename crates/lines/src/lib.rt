@@ -4,19 +4,6 @@
 ghost use Rattle.std.specs.Prelude.{◌≡◌, ◌≤◌};
 ghost use Rattle.lines.specs.State.{start, number_of, refused, ended, minus, digit, stepped, finished};
 
-// What a line says: the readings in milliradians, or that it is no line of five numbers.
-#[derive(Clone, Copy)]
-pub enum Line {
-    Readings {
-        alpha: i64,
-        beta: i64,
-        xi: i64,
-        eta: i64,
-        zeta: i64,
-    },
-    Malformed,
-}
-
 // The digits of a word in one number: k of them with the value v are 2^16 * 10^k + v. A digit more is a product and a sum, one test says whether
 // there are so many, and the value is the lowest 16 bits.
 const NO_DIGIT: u64 = 65_536;
@@ -40,17 +27,6 @@ pub struct State {
     pub eta: i64,
 }
 
-// The number of a word.
-fn number(minus: u64, digits: u64) -> i64
-    ensures { result ≡ number_of minus digits }
-{
-    let plain = (digits % NO_DIGIT) as i64;
-    if minus > 0 {
-        return -plain;
-    }
-    plain
-}
-
 impl State {
     // Nothing is read.
     pub fn start() -> State
@@ -67,6 +43,14 @@ impl State {
         }
     }
 
+    // The number of the word that has not ended.
+    fn number(self) -> i64
+        ensures { result ≡ number_of self.minus self.digits }
+    {
+        let plain = (self.digits % NO_DIGIT) as i64;
+        if self.minus > 0 { -plain } else { plain }
+    }
+
     fn refused(mut self) -> State
         ensures { result ≡ refused self }
     {
@@ -78,10 +62,7 @@ impl State {
     fn ended(self) -> State
         ensures { result ≡ ended self }
     {
-        if self.digits < ONE_DIGIT {
-            return self.refused();
-        }
-        if self.words >= 4 {
+        if self.digits < ONE_DIGIT || self.words >= 4 {
             return self.refused();
         }
         State {
@@ -91,7 +72,7 @@ impl State {
             alpha: self.beta,
             beta: self.xi,
             xi: self.eta,
-            eta: number(self.minus, self.digits),
+            eta: self.number(),
         }
     }
 
@@ -99,10 +80,7 @@ impl State {
     fn minus(mut self) -> State
         ensures { result ≡ minus self }
     {
-        if self.minus > 0 {
-            return self.refused();
-        }
-        if self.digits >= ONE_DIGIT {
+        if self.minus > 0 || self.digits >= ONE_DIGIT {
             return self.refused();
         }
         self.minus = 1;
@@ -125,34 +103,21 @@ impl State {
     pub fn step(self, byte: u8) -> State
         ensures { result ≡ stepped self byte }
     {
-        if byte >= b'0' && byte <= b'9' {
-            return self.digit(byte as u64 - b'0' as u64);
+        match byte {
+            b'0'..=b'9' => self.digit((byte - b'0') as u64),
+            b' ' => self.ended(),
+            b'-' => self.minus(),
+            _ => self.refused(),
         }
-        if byte == b' ' {
-            return self.ended();
-        }
-        if byte == b'-' {
-            return self.minus();
-        }
-        self.refused()
     }
 
-    // Nothing follows: four words have ended, and the fifth has a digit.
-    pub fn finish(self) -> Line
+    // Nothing follows: the five readings in milliradians, where four words have ended and the fifth has a digit.
+    pub fn finish(self) -> Option<[i64; 5]>
         ensures { result ≡ finished self }
     {
-        if self.words != 4 {
-            return Line::Malformed;
+        if self.words != 4 || self.digits < ONE_DIGIT {
+            return None;
         }
-        if self.digits < ONE_DIGIT {
-            return Line::Malformed;
-        }
-        Line::Readings {
-            alpha: self.alpha,
-            beta: self.beta,
-            xi: self.xi,
-            eta: self.eta,
-            zeta: number(self.minus, self.digits),
-        }
+        Some([self.alpha, self.beta, self.xi, self.eta, self.number()])
     }
 }

@@ -1,9 +1,8 @@
 -- Words that hold several numbers side by side, and their digits as bytes. A mask takes the quotients of all of them out of one product.
 --   hundreds-of-two                            two numbers of four digits divided by a hundred at once
---   unpacked-packed, four_bytes, eight-bytes   the bytes of a word are those that it was made of
---   four-covered, four-wide, four-word         the word of four digits: what is taken away is there, fits, and leaves the digits
---   fours-covered, fours-wide, hundreds-covered, hundreds-wide, split-pairs   the pairs of eight digits from their fours and hundreds, as the word of four
---   pairs-wide, tens-covered, tens-wide, room, eight-word   the word of eight digits, as that of four
+--   unpacked-packed, four_bytes, eight-bytes   the lowest bytes of a word are those that it was made of
+--   hundreds-covered, split-pairs              the pairs of eight digits: what is taken away from their fours is there, and leaves the pairs
+--   tens-covered, eight-word                   the word of eight digits from their pairs, in the same way
 use mathlib.Core.Path.{◌≡◌, refl, sym, ap, ap₂, subst, ◌∙◌}
 use mathlib.Core.List.{List, [], ◌∷◌, ◌++◌}
 use Prim.Native.Nat.{ℕ, ◌+◌, ◌*◌, ◌-◌, ◌/◌, ◌%◌, ◌^◌, ◌<◌, ◌≤◌}
@@ -51,14 +50,6 @@ tenth x others above h =
     ∙ part 4 16 (x / 10 + 64 * (others * 103)) above (omega arith)
     ∙ ap₂ (λ a b. bit_and a above * 65536 + b) upper lower
 
-tens-of-two : (p q : ℕ) → p < 100 → q < 100 → bit_and ((p + 65536 * q) * 103 / 1024) 983055 ≡ p / 10 + 65536 * (q / 10)
-tens-of-two p q hp hq =
-    let last : q * 103 / 1024 ≡ q / 10 = omega arith in
-    let small : q / 10 % 16 ≡ q / 10 = omega arith in
-    tenth p q 15 hp
-    ∙ ap (λ a. a * 65536 + p / 10) (and_mask (q * 103 / 1024) 4 ∙ ap (λ a. a % 16) last ∙ small)
-    ∙ omega arith
-
 tens-of-four : (p q r s : ℕ) → p < 100 → q < 100 → r < 100 → s < 100 → bit_and ((p + 65536 * (q + 65536 * (r + 65536 * s))) * 103 / 1024) 4222189076152335 ≡ p / 10 + 65536 * (q / 10 + 65536 * (r / 10 + 65536 * (s / 10)))
 tens-of-four p q r s hp hq hr hs =
     let last : s * 103 / 1024 ≡ s / 10 = omega arith in
@@ -81,11 +72,11 @@ bytes-append (x ∷ xs) ys h k = (h.0, bytes-append xs ys h.1 k)
 lowest : (b above : ℕ) → b < 256 → ((b + 256 * above) % 256 ≡ b) × ((b + 256 * above) / 256 ≡ above)
 lowest b above h = (omega arith, omega arith)
 
-pub unpacked-packed : (bytes : List ℕ) → Bytes bytes → unpacked (length bytes) (packed bytes) ≡ bytes
-unpacked-packed [] h = refl
-unpacked-packed (b ∷ bytes) h =
-    let l = lowest b (packed bytes) h.0 in
-    ap₂ ◌∷◌ l.0 (ap (unpacked (length bytes)) l.1 ∙ unpacked-packed bytes h.1)
+pub unpacked-packed : (bytes rest : List ℕ) → Bytes bytes → unpacked (length bytes) (packed (bytes ++ rest)) ≡ bytes
+unpacked-packed [] rest h = refl
+unpacked-packed (b ∷ bytes) rest h =
+    let l = lowest b (packed (bytes ++ rest)) h.0 in
+    ap₂ ◌∷◌ l.0 (ap (unpacked (length bytes)) l.1 ∙ unpacked-packed bytes rest h.1)
 
 digit : (n : ℕ) → 48 + n % 10 < 256
 digit n = omega arith
@@ -113,37 +104,6 @@ digits-word n h =
 four-covers : (n : ℕ) → 2559 * tens n ≤ 256 * pairs n
 four-covers n = omega arith
 
-four_below : (n : ℕ) → n < 10000 → pairs n < 6553600
-four_below n h = omega arith
-
--- a difference and what is added to it fit 64 bits where they would without what is taken away
-pub room : (a t k : ℕ) → a + k < 18446744073709551616 → a - t + k < 18446744073709551616
-room a t k h = omega arith
-
-tens-fit : (t m : ℕ) → t ≤ m → m < 18446744073709551616 → t < 18446744073709551616
-tens-fit t m h l = omega arith
-
-small-fits : (p : ℕ) → p < 6553600 → 256 * p < 18446744073709551616
-small-fits p h = omega arith
-
-rest : (a t k w : ℕ) → t ≤ a → a + k ≡ t + w → a - t + k ≡ w
-rest a t k w h e = omega arith
-
-module _ (n : ℕ) (h : n < 10000) where
-  tens-of-pairs : bit_and (pairs n * 103 / 1024) 983055 ≡ tens n
-  tens-of-pairs = tens-of-two (n / 100) (n % 100) (omega arith) (omega arith)
-
-  pub four-covered : 2559 * bit_and (pairs n * 103 / 1024) 983055 ≤ 256 * pairs n
-  four-covered = subst (λ t. 2559 * t ≤ 256 * pairs n) (sym tens-of-pairs) (four-covers n)
-
-  pub four-wide : 2559 * bit_and (pairs n * 103 / 1024) 983055 < 18446744073709551616
-  four-wide = tens-fit (2559 * bit_and (pairs n * 103 / 1024) 983055) (256 * pairs n) four-covered (small-fits (pairs n) (four_below n h))
-
-  pub four-word : 256 * pairs n - 2559 * bit_and (pairs n * 103 / 1024) 983055 + 808464432 ≡ packed (four n)
-  four-word =
-      ap (λ t. 256 * pairs n - 2559 * t + 808464432) tens-of-pairs
-      ∙ rest (256 * pairs n) (2559 * tens n) 808464432 (packed (four n)) (four-covers n) (digits-word n h)
-
 -- ════ the pairs of eight digits: the numbers of the first four and of the last, side by side, and their hundreds
 abbrev fours : ℕ → ℕ
 fours n = 4294967296 * n - 42949672959999 * (n * 109951163 / 1099511627776)
@@ -158,13 +118,7 @@ ten-thousandth n h = omega arith
 taken_out : (x y h : ℕ) → h ≡ x / 100 + 4294967296 * (y / 100) → (6553599 * h ≤ 65536 * (x + 4294967296 * y)) × (65536 * (x + 4294967296 * y) - 6553599 * h ≡ pairs x + 4294967296 * pairs y)
 taken_out x y h e = (omega arith, omega arith)
 
-side_by_side : (x y : ℕ) → x < 10000 → y < 10000 → ((x + 4294967296 * y) * 5243 < 18446744073709551616) × (65536 * (x + 4294967296 * y) < 18446744073709551616)
-side_by_side x y h l = (omega arith, omega arith)
-
 module _ (n : ℕ) (h : n < 100000000) where
-  pub fours-covered : 42949672959999 * (n * 109951163 / 1099511627776) ≤ 4294967296 * n
-  fours-covered = subst (λ x. 42949672959999 * x ≤ 4294967296 * n) (sym (ten-thousandth n h)) (omega arith)
-
   two-fours : fours n ≡ n / 10000 + 4294967296 * (n % 10000)
   two-fours = ap (λ x. 4294967296 * n - 42949672959999 * x) (ten-thousandth n h) ∙ omega arith
 
@@ -173,22 +127,12 @@ module _ (n : ℕ) (h : n < 100000000) where
       ap (λ f. bit_and (f * 5243 / 524288) 545460846719) two-fours
       ∙ hundreds-of-two (n / 10000) (n % 10000) (omega arith) (omega arith)
 
-  pub fours-wide : (fours n * 5243 < 18446744073709551616) × (65536 * fours n < 18446744073709551616)
-  fours-wide =
-      subst
-      (λ f. (f * 5243 < 18446744073709551616) × (65536 * f < 18446744073709551616))
-      (sym two-fours)
-      (side_by_side (n / 10000) (n % 10000) (omega arith) (omega arith))
-
   pub hundreds-covered : 6553599 * hundreds n ≤ 65536 * fours n
   hundreds-covered =
       subst
       (λ f. 6553599 * hundreds n ≤ 65536 * f)
       (sym two-fours)
       (taken_out (n / 10000) (n % 10000) (hundreds n) two-hundreds).0
-
-  pub hundreds-wide : 6553599 * hundreds n < 18446744073709551616
-  hundreds-wide = tens-fit (6553599 * hundreds n) (65536 * fours n) hundreds-covered fours-wide.1
 
   pub split-pairs : 65536 * fours n - 6553599 * hundreds n ≡ pairs (n / 10000) + 4294967296 * pairs (n % 10000)
   split-pairs =
@@ -198,12 +142,6 @@ module _ (n : ℕ) (h : n < 100000000) where
 -- ════ eight digits at once: x and y are the numbers of the first four and of the last
 nest : (p q r s : ℕ) → p + 65536 * q + 4294967296 * (r + 65536 * s) ≡ p + 65536 * (q + 65536 * (r + 65536 * s))
 nest p q r s = omega arith
-
-two-below : (a b : ℕ) → a < 6553600 → b < 6553600 → a + 4294967296 * b < 30000000000000000
-two-below a b h l = omega arith
-
-wide : (p : ℕ) → p < 30000000000000000 → (p * 103 < 18446744073709551616) × (256 * p < 18446744073709551616) × (256 * p + 3472328296227680304 < 18446744073709551616)
-wide p h = (omega arith, omega arith, omega arith)
 
 covers : (a b s t : ℕ) → 2559 * s ≤ 256 * a → 2559 * t ≤ 256 * b → 2559 * (s + 4294967296 * t) ≤ 256 * (a + 4294967296 * b)
 covers a b s t h l = omega arith
@@ -216,13 +154,7 @@ packed-eight : (a b c d e f g h : ℕ) → packed (a ∷ b ∷ c ∷ d ∷ []) +
 packed-eight a b c d e f g h = omega arith
 
 module _ (x y : ℕ) (hx : x < 10000) (hy : y < 10000) where
-  both_below : pairs x + 4294967296 * pairs y < 30000000000000000
-  both_below = two-below (pairs x) (pairs y) (four_below x hx) (four_below y hy)
-
   module _ (p : ℕ) (e : p ≡ pairs x + 4294967296 * pairs y) where
-    pub pairs-wide : (p * 103 < 18446744073709551616) × (256 * p < 18446744073709551616) × (256 * p + 3472328296227680304 < 18446744073709551616)
-    pairs-wide = wide p (subst (λ m. m < 30000000000000000) (sym e) both_below)
-
     tens-of-word : bit_and (p * 103 / 1024) 4222189076152335 ≡ tens x + 4294967296 * tens y
     tens-of-word =
         ap (λ m. bit_and (m * 103 / 1024) 4222189076152335) (e ∙ nest (x / 100) (x % 100) (y / 100) (y % 100))
@@ -235,9 +167,6 @@ module _ (x y : ℕ) (hx : x < 10000) (hy : y < 10000) where
         (λ m. m)
         (sym (ap₂ (λ t m. 2559 * t ≤ 256 * m) tens-of-word e))
         (covers (pairs x) (pairs y) (tens x) (tens y) (four-covers x) (four-covers y))
-
-    pub tens-wide : 2559 * bit_and (p * 103 / 1024) 4222189076152335 < 18446744073709551616
-    tens-wide = tens-fit (2559 * bit_and (p * 103 / 1024) 4222189076152335) (256 * p) tens-covered pairs-wide.1
 
     pub eight-word : 256 * p - 2559 * bit_and (p * 103 / 1024) 4222189076152335 + 3472328296227680304 ≡ packed (four x ++ four y)
     eight-word =

@@ -1,6 +1,5 @@
 -- Bytes written from a place on, one after the other.
 --   written-sets    what single stores leave
---   sets-two        two stores
 --   stored-behind   bytes stored behind bytes
 --   written-cons    bytes written behind a byte that is stored
 --   written-append  bytes written behind bytes
@@ -17,9 +16,6 @@ use Rattle.printing.specs.Spell.{written}
 
 pub written-sets : (out : List ℕ) (at : ℕ) (bytes : List ℕ) → at + length bytes ≤ length out → sets out at bytes ≡ written out at bytes
 written-sets out at bytes h = sets-eq bytes out at h
-
-pub sets-two : (out : List ℕ) (at a b : ℕ) → set (set out at a) (at + 1) b ≡ sets out at (a ∷ b ∷ [])
-sets-two out at a b = ap (λ i. set (set out at a) i b) (add-one at)
 
 pub written-cons : (out : List ℕ) (at b : ℕ) (bytes : List ℕ) → at + length (b ∷ bytes) ≤ length out → written (set out at b) (at + 1) bytes ≡ written out at (b ∷ bytes)
 written-cons out at b bytes h =

@@ -1,24 +1,17 @@
-// Printing whole numbers in decimal, into an output that the caller lends.
+// Printing whole numbers in decimal, into an output that the caller lends. An output and a place in it are two parameters: as one struct of
+// both, the seven numbers of an answer took 600 instructions in place of 505, so that is kept. Below, `505` is this count.
 #![tactic(auto)]
 
-ghost use Rattle.std.specs.Prelude.{◌≡◌, [], ◌∷◌, ◌+◌, ◌*◌, ◌/◌, ◌%◌, ◌<◌, ◌≤◌, length};
+ghost use Rattle.std.specs.Prelude.{◌≡◌, [], ◌∷◌, ◌++◌, ℕ, ◌+◌, ◌*◌, ◌/◌, ◌%◌, ◌<◌, ◌≤◌, length};
 ghost use Rattle.std.proofs.lemmas.List.Edits.{sets};
-ghost use Rattle.printing.specs.Groups.{four, eight, pairs, packed, unpacked};
+ghost use Rattle.printing.specs.Groups.{four, eight, pairs, Paired, packed, unpacked};
 ghost use Rattle.printing.specs.Spell.{decimal, spell, longest_number, written};
 
 // How many bytes a number takes at most: the least i64 has a minus and 19 digits, the greatest u64 has 20.
 pub const LONGEST_NUMBER: usize = 20;
 
-// The four digits of a number as the bytes of one word, the first lowest. The two bytes of a pair of digits, whose number is
-// 10a + b, are a + 256b = 256(10a + b) - 2559a.
-fn four_bytes(n: u64) -> u64
-    requires { n < 10000 }
-    ensures { result ≡ packed (four n) }
-{
-    let pairs = n / 100 + 65_536 * (n % 100);
-    let tens = pairs * 103 / 1_024 & 0x000f_000f;
-    256 * pairs - 2_559 * tens + 0x3030_3030
-}
+// The least number of eight digits.
+const LEAST_OF_EIGHT: u64 = 10_000_000;
 
 // The four pairs of digits of a number of eight, 16 bits apart, the first lowest. For these numbers a ten-thousandth is 109,951,163 / 2^40. What it
 // leaves is put 32 bits above it: x + 2^32(n - 10,000x) = 2^32 n - 42,949,672,959,999x. Two numbers below 10,000 that are 32 bits apart are divided
@@ -33,38 +26,36 @@ fn eight_pairs(n: u64) -> u64
     65_536 * fours - 6_553_599 * hundreds
 }
 
-// The eight digits of a number as the bytes of one word, the first lowest: as with four, and the four pairs are divided by ten
-// at once. For these a tenth is 103 / 2^10.
-fn eight_bytes(n: u64) -> u64
-    requires { n < 100000000 }
-    ensures { result ≡ packed (eight n) }
+// Pairs of digits, 16 bits apart, as the bytes of one word, the first lowest: all are divided by ten at once. For these a tenth is
+// 103 / 2^10. The two bytes of a pair, whose number is 10a + b, are a + 256b = 256(10a + b) - 2559a.
+fn digit_bytes(pairs: u64) -> u64
+    requires { (x : ℕ) × (y : ℕ) × Paired pairs x y }
+    ensures { (x y : ℕ) → Paired pairs x y → result ≡ packed (four x ++ four y) }
 {
-    let pairs = eight_pairs(n);
     let tens = pairs * 103 / 1_024 & 0x000f_000f_000f_000f;
     256 * pairs - 2_559 * tens + 0x3030_3030_3030_3030
 }
 
-// The bytes of a word, the lowest first, from the place `at` on. Where their number is known these become one store.
+// The bytes of a word, the lowest first, from the place `at` on. Where their number is known these become one store. An array of bytes that is
+// copied takes 583 in place of 505, since the compiler then works out two words at once in vectors.
 fn put_bytes(word: u64, count: usize, out: &mut [u8], at: usize)
     requires { at + count ≤ length out.old }
     ensures { out.new ≡ sets out.old at (unpacked count word) }
 {
-    let end = at + count;
     let mut rest = word;
-    let mut i = at;
-    while i < end {
+    for i in at..at + count {
         out[i] = (rest % 256) as u8;
         rest /= 256;
-        i += 1;
     }
 }
 
-// Eight digits from the place `at` on, zeros in front too.
+// Eight digits from the place `at` on, zeros in front too. One function for two, four and eight, whatever is shared, is not laid into its
+// callers: it takes 603 or more in place of 505.
 fn put_eight(n: u64, out: &mut [u8], at: usize)
     requires { (n < 100000000) × (at + 8 ≤ length out.old) }
     ensures { out.new ≡ sets out.old at (eight n) }
 {
-    put_bytes(eight_bytes(n), 8, out, at);
+    put_bytes(digit_bytes(eight_pairs(n)), 8, out, at);
 }
 
 // Four digits from the place `at` on, zeros in front too.
@@ -72,7 +63,7 @@ fn put_four(n: u64, out: &mut [u8], at: usize)
     requires { (n < 10000) × (at + 4 ≤ length out.old) }
     ensures { out.new ≡ sets out.old at (four n) }
 {
-    put_bytes(four_bytes(n), 4, out, at);
+    put_bytes(digit_bytes(n / 100 + 65_536 * (n % 100)), 4, out, at);
 }
 
 // Two digits from the place `at` on, a zero in front too.
@@ -113,7 +104,7 @@ fn put_short(n: u64, out: &mut [u8], at: usize) -> usize
     ensures place { result ≡ at + length (decimal n) }
     ensures output { out.new ≡ sets out.old at (decimal n) }
 {
-    if n >= 10_000_000 {
+    if n >= LEAST_OF_EIGHT {
         put_eight(n, out, at);
         return at + 8;
     }
@@ -126,7 +117,8 @@ fn put_short(n: u64, out: &mut [u8], at: usize) -> usize
 }
 
 // The digits of a number from the place `at` on; gives the place behind them. The first group is as long as it is, so that no
-// digit has to be counted, and each further group has eight digits.
+// digit has to be counted, and each further group has eight digits. The first is put in one place: a way out for numbers of one group takes
+// 543 in place of 505.
 pub fn put_digits(n: u64, out: &mut [u8], at: usize) -> usize
     requires { at + length (decimal n) ≤ length out.old }
     ensures place { result ≡ at + length (decimal n) }
@@ -140,10 +132,7 @@ pub fn put_digits(n: u64, out: &mut [u8], at: usize) -> usize
         put_eight(n - 100_000_000 * high, out, i + 8);
         return i + 16;
     }
-    let mut first = n;
-    if high > 0 {
-        first = high;
-    }
+    let first = if high > 0 { high } else { n };
     let i = put_short(first, out, at);
     if high > 0 {
         put_eight(n - 100_000_000 * high, out, i);
@@ -152,19 +141,18 @@ pub fn put_digits(n: u64, out: &mut [u8], at: usize) -> usize
     i
 }
 
-// A number from the place `at` on; gives the place behind it. The digits are put in one place for either sign, so that the code for them is there once.
+// A number from the place `at` on; gives the place behind it. The digits are put in one place for either sign, so that the code for them is
+// there once. Its magnitude taken in one place as well takes 521 in place of 505.
 pub fn put_number(x: i64, out: &mut [u8], at: usize) -> usize
     requires { at + longest_number ≤ length out.old }
     ensures place { result ≡ at + length (spell x) }
     ensures output { out.new ≡ written out.old at (spell x) }
 {
-    let mut start = at;
-    let n = if x < 0 {
+    let (n, start) = if x < 0 {
         out[at] = b'-';
-        start = at + 1;
-        whole::magnitude(x)
+        (x.unsigned_abs(), at + 1)
     } else {
-        x as u64
+        (x as u64, at)
     };
     put_digits(n, out, start)
 }

@@ -8,7 +8,7 @@ use Rattle.layout.specs.Reading.{readings, read_number, read_output}
 use Rattle.laws.proofs.Refused.{read_kept}
 use Rattle.cumulus_page.specs.Published.{published}
 use Rattle.lines.specs.Line.{parse}
-use Rattle.lines.specs.declared.Line.TheVariants.{Readings, Malformed}
+use Rattle.std.specs.Prelude.{Some, None}
 use Rattle.printing.specs.Spell.{decimal}
 use Rattle.answers.specs.Answers.{zeros, numbered, line_answer, program, trimcard}
 use Rattle.answers.specs.Reading.{fresh, Plain}
@@ -35,7 +35,7 @@ last-line-counts = line-last published
 -- ════ The answer to a line
 -- To five numbers: the number of the read of the published table, and what it leaves in six zeros,
 pub readings-are-read : (alpha beta xi eta zeta : ℤ)
-    → line_answer published (Readings alpha beta xi eta zeta)
+    → line_answer published (Some (alpha ∷ beta ∷ xi ∷ eta ∷ zeta ∷ []))
     ≡ (let state = alpha ∷ beta ∷ xi ∷ eta ∷ zeta ∷ [] in
     numbered (read_number cumulus published (readings state) zeros) (read_output cumulus published (readings state) zeros))
 unfolding line_answer
@@ -46,7 +46,7 @@ pub refused-line-has-zeros : (state : List ℤ) → 0 < read_number cumulus publ
 refused-line-has-zeros state = read_kept cumulus published (readings state) zeros refl
 
 -- To a malformed line: 31 and six zeros.
-pub malformed-line : line_answer published Malformed ≡ ascii "31 0 0 0 0 0 0\n"
+pub malformed-line : line_answer published None ≡ ascii "31 0 0 0 0 0 0\n"
 unfolding line_answer decimal
 malformed-line = refl
 
@@ -56,7 +56,7 @@ unfolding program line_answer parse decimal
 empty-line rest = refl
 
 -- -0 and leading zeros are allowed.
-pub zeros-in-front : parse (ascii "-0 00 -000 0007 -0012") ≡ Readings (pos 0) (pos 0) (pos 0) (pos 7) (neg_ℤ (pos 12))
+pub zeros-in-front : parse (ascii "-0 00 -000 0007 -0012") ≡ Some (pos 0 ∷ pos 0 ∷ pos 0 ∷ pos 7 ∷ neg_ℤ (pos 12) ∷ [])
 unfolding parse
 zeros-in-front = refl
 
