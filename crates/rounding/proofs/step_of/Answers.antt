@@ -4,7 +4,6 @@ use Rattle.std.specs.Float.{float_is_finite}
 use lib.Ieee.{Float, of_bits, neg}
 use lib.Ieee.Scale.{finite}
 use Rattle.whole.proofs.Machine.{lt-taken, lt-left}
-use Rattle.rounding.specs.Reading.{whole_of}
 use Rattle.rounding.proofs.Far.{far-below, far-above, near, finite-told}
 use Rattle.rounding.proofs.Steps.{step-not-finite, step-below, step-above, step-inside}
 use Rattle.rounding.proofs.step_of.Goals as goal
