@@ -25,7 +25,7 @@ use tables::reading::write_values;
 use tables::soundness::refusal_of;
 
 // What the door gives back: its number, the reading where that is outside its limits and positive zero otherwise, and the floats of
-// X, Y, Z, l, m and n.
+// X, Y, Z, l, m and n. It stays a struct with a number, since C has it so (include/clochecloak.h).
 #[repr(C)]
 #[derive(Clone, Copy)]
 pub struct Answer {
