@@ -7,6 +7,7 @@
 --   reading_step, reading-elsewhere   the place that hands a reading back
 --   value-number, reading-number   none of the seven floats is a NaN
 --   one_answer         the contract allows one answer
+use Rattle.std.proofs.Common.{Err}
 use mathlib.Core.Path.{◌≡◌, refl, sym, ◌∙◌, ap}
 use mathlib.Core.Bool.{Bool, true, false, not, cond}
 use mathlib.Core.List.{List, ◌∷◌, ◌++◌}
@@ -32,7 +33,7 @@ use Rattle.laws.proofs.Refused.{read-given, read_kept}
 use Rattle.limits.proofs.Firsts.{first_past, first-none, first-at}
 use Rattle.tables.proofs.Steps.{first-apart}
 use Rattle.rounding.specs.Answer.{float_of}
-use Rattle.rounding.specs.declared.Step.TheVariants.{Outside}
+use Rattle.rounding.specs.declared.Unread.TheVariants.{Outside}
 use Rattle.rounding.proofs.Answers.{zero-positive, never-nan}
 use Rattle.door.specs.declared.Answer.{Answer}
 use Rattle.door.specs.Steps.{positive_zero, not_finite, handed_back}
@@ -128,7 +129,7 @@ module _ (t : List ℤ) (x : ℕ → Float) where
   zero-on-refusal h = zero-refused t x (door_number cumulus t x) refl (omega (arith, h))
 
   -- Where the reading of variable i is refused as outside, its step carries it as given, and hands it back.
-  pub reading_step : (i : ℕ) → i < cumulus.variables → door_number cumulus t x ≡ outside cumulus i → (step_at cumulus t x i ≡ Outside (x i)) × (door_reading cumulus t x ≡ handed_back (step_at cumulus t x i))
+  pub reading_step : (i : ℕ) → i < cumulus.variables → door_number cumulus t x ≡ outside cumulus i → (step_at cumulus t x i ≡ Err (Outside (x i))) × (door_reading cumulus t x ≡ handed_back (step_at cumulus t x i))
   unfolding door_number first
   reading_step i h e =
       let step = outside-found (step_at cumulus t x) cumulus.variables i (omega arith) (past-tests (not (eqb (length t) (table_length cumulus))) (not (good cumulus t)) (not (light cumulus t)) _ i e) in

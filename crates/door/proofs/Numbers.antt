@@ -1,9 +1,11 @@
 -- Which number the door gives back, from the tests one after another, and the answer with it.
 --   named-not-finite, named-outside      the number of a step that refuses
 --   not-finite-number, none-not-finite, none-outside, past-finite   what the first refusal of the steps tells
+--   number-not-finite, number-outside, number-whole   the number of all the steps, by the first that refuses
 --   back_below, back_above, back-given, back-agreed   the reading handed back with a number
 --   table-small, door-refused, door-sound   the number
 --   zero-refused, value-done, reading-is, refused-answer, done-answer   the answer with it
+use Rattle.std.proofs.Common.{Result, Ok, Err}
 use mathlib.Core.Path.{◌≡◌, refl, sym, ◌∙◌, ap, ap₂}
 use mathlib.Core.Bool.{Bool, true, false, not, cond, ◌&&◌, true≢false}
 use mathlib.Core.List.{List, [], ◌∷◌, ◌++◌}
@@ -23,24 +25,24 @@ use Rattle.laws.proofs.Refused.{first-skip}
 use Rattle.limits.proofs.Firsts.{first_past, first-none, first-at}
 use Rattle.tables.specs.Ready.{table_refusals, table_number}
 use Rattle.tables.proofs.Steps.{first-apart}
-use Rattle.rounding.specs.declared.Step.{Step}
-use Rattle.rounding.specs.declared.Step.TheVariants.{Whole, NotFinite, Outside}
+use Rattle.rounding.specs.declared.Unread.{Unread}
+use Rattle.rounding.specs.declared.Unread.TheVariants.{NotFinite, Outside}
 use Rattle.door.specs.Steps.{positive_zero, not_finite, number_of, handed_back, is_not_finite, is_outside}
-use Rattle.door.specs.Door.{rounded_all, step_at, not_finites, outsides, door_number, for_outside, reading_for, door_reading, true_piece, float_at, door_value, answer_with, door_answer, refused_with}
+use Rattle.door.specs.Door.{rounded_all, step_at, not_finites, outsides, steps_number, door_number, for_outside, reading_for, door_reading, true_piece, float_at, door_value, answer_with, door_answer, refused_with}
 use Rattle.door.proofs.Firsts.{Found, none, at, found}
 
 -- ---- the refusals of steps
-pub named-not-finite : (i : ℕ) (r : Step) → is_not_finite r ≡ true → number_of cumulus i r ≡ not_finite cumulus i
-named-not-finite i (Whole z) e = absurd (true≢false (sym e))
-named-not-finite i NotFinite e = refl
-named-not-finite i (Outside x) e = absurd (true≢false (sym e))
+pub named-not-finite : (i : ℕ) (r : Result ℤ Unread) → is_not_finite r ≡ true → number_of cumulus i r ≡ not_finite cumulus i
+named-not-finite i (Ok z) e = absurd (true≢false (sym e))
+named-not-finite i (Err NotFinite) e = refl
+named-not-finite i (Err (Outside x)) e = absurd (true≢false (sym e))
 
-pub named-outside : (i : ℕ) (r : Step) → is_outside r ≡ true → number_of cumulus i r ≡ outside cumulus i
-named-outside i (Whole z) e = absurd (true≢false (sym e))
-named-outside i NotFinite e = absurd (true≢false (sym e))
-named-outside i (Outside x) e = refl
+pub named-outside : (i : ℕ) (r : Result ℤ Unread) → is_outside r ≡ true → number_of cumulus i r ≡ outside cumulus i
+named-outside i (Ok z) e = absurd (true≢false (sym e))
+named-outside i (Err NotFinite) e = absurd (true≢false (sym e))
+named-outside i (Err (Outside x)) e = refl
 
-module _ (s : ℕ → Step) where
+module _ (s : ℕ → Result ℤ Unread) where
   abbrev pub refused_not_finite : ℕ → Refusal
   refused_not_finite i = number_of cumulus i (s i) when is_not_finite (s i)
 
@@ -72,6 +74,20 @@ module _ (s : ℕ → Step) where
     pub past-finite : first (not_finites cumulus n s) ≡ 0 → first (not_finites cumulus n s ++ outsides cumulus n s) ≡ first (outsides cumulus n s)
     past-finite e = first_past refused_not_finite n (none-not-finite e) (outsides cumulus n s)
 
+  -- ---- the number of all the steps
+  pub number-not-finite : (i : ℕ) → i < cumulus.variables → is_not_finite (s i) ≡ true → ((k : ℕ) → k < i → is_not_finite (s k) ≡ false) → steps_number cumulus s ≡ not_finite cumulus i
+  number-not-finite i h one before =
+      let e : first (not_finites cumulus cumulus.variables s) ≡ not_finite cumulus i = first-at refused_not_finite i before one cumulus.variables h ∙ named-not-finite i (s i) one in
+      first-apart (not_finites cumulus cumulus.variables s) (outsides cumulus cumulus.variables s) (λ z. omega arith) ∙ e
+
+  module _ (finite : (k : ℕ) → k < cumulus.variables → is_not_finite (s k) ≡ false) where
+    pub number-outside : (i : ℕ) → i < cumulus.variables → is_outside (s i) ≡ true → ((k : ℕ) → k < i → is_outside (s k) ≡ false) → steps_number cumulus s ≡ outside cumulus i
+    number-outside i h one before =
+        first_past refused_not_finite cumulus.variables finite (outsides cumulus cumulus.variables s) ∙ first-at refused_outside i before one cumulus.variables h ∙ named-outside i (s i) one
+
+    pub number-whole : ((k : ℕ) → k < cumulus.variables → is_outside (s k) ≡ false) → steps_number cumulus s ≡ 0
+    number-whole within = first_past refused_not_finite cumulus.variables finite (outsides cumulus cumulus.variables s) ∙ first-none refused_outside cumulus.variables within
+
   -- ---- the reading handed back
   shut : (b : Bool) → (b && false) ≡ false
   shut true = refl
@@ -92,7 +108,7 @@ module _ (s : ℕ → Step) where
       with-test (outside cumulus k) (ap₂ ◌&&◌ (le-leb (outside cumulus 0) (outside cumulus k) (omega arith)) (lt-ltb (outside cumulus k) (outside cumulus cumulus.variables) (omega arith))) ∙ ap (λ j. handed_back (s j)) e
 
 -- it is that of one of the five variables
-pub back-agreed : (s r : ℕ → Step) → ((i : ℕ) → i < cumulus.variables → s i ≡ r i) → (n : ℕ) → reading_for cumulus s n ≡ reading_for cumulus r n
+pub back-agreed : (s r : ℕ → Result ℤ Unread) → ((i : ℕ) → i < cumulus.variables → s i ≡ r i) → (n : ℕ) → reading_for cumulus s n ≡ reading_for cumulus r n
 back-agreed s r h n = go (dec_lt n (outside cumulus 0)) (dec_lt n (outside cumulus cumulus.variables))
   where
     go : Dec (n < outside cumulus 0) → Dec (n < outside cumulus cumulus.variables) → reading_for cumulus s n ≡ reading_for cumulus r n

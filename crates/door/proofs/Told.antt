@@ -4,6 +4,7 @@
 --   number_step                     no step hands a NaN back
 --   first-same                      refusals that hold together, with the same number where they do, give the same first number
 --   outside-found                   the number of a variable outside is given only where its step is
+use Rattle.std.proofs.Common.{Result, Ok, Err}
 use mathlib.Core.Path.{◌≡◌, refl, sym, ◌∙◌, subst}
 use mathlib.Core.Bool.{Bool, true, false, not, cond, ◌&&◌, true≢false}
 use mathlib.Core.List.{◌++◌}
@@ -21,8 +22,8 @@ use Rattle.layout.specs.Refusals.{Refusal, first, outside}
 use Rattle.limits.proofs.Firsts.{first-none, first-at}
 use Rattle.tables.proofs.Steps.{first-apart}
 use Rattle.rounding.specs.Reading.{whole_of, step_of}
-use Rattle.rounding.specs.declared.Step.{Step}
-use Rattle.rounding.specs.declared.Step.TheVariants.{Whole, Outside}
+use Rattle.rounding.specs.declared.Unread.{Unread}
+use Rattle.rounding.specs.declared.Unread.TheVariants.{Outside}
 use Rattle.rounding.proofs.Steps.{Stepped, is-not-finite, is-outside, is_whole, stepped}
 use Rattle.door.specs.Steps.{not_finite, handed_back, is_not_finite, is_outside}
 use Rattle.door.specs.Door.{not_finites, outsides}
@@ -30,11 +31,11 @@ use Rattle.door.proofs.Firsts.{Found, none, at, found}
 use Rattle.door.proofs.Numbers.{refused_outside, named-outside, not-finite-number, past-finite}
 
 -- ---- one step
-chosen-finite : (b : Bool) (z : ℤ) (x : Float) → is_not_finite (cond b (Whole z) (Outside x)) ≡ false
+chosen-finite : (b : Bool) (z : ℤ) (x : Float) → is_not_finite (cond b (Ok z) (Err (Outside x))) ≡ false
 chosen-finite true z x = refl
 chosen-finite false z x = refl
 
-chosen-outside : (b : Bool) (z : ℤ) (x : Float) → is_outside (cond b (Whole z) (Outside x)) ≡ not b
+chosen-outside : (b : Bool) (z : ℤ) (x : Float) → is_outside (cond b (Ok z) (Err (Outside x))) ≡ not b
 chosen-outside true z x = refl
 chosen-outside false z x = refl
 
@@ -50,12 +51,12 @@ outside_told nan lowest highest f = absurd (true≢false (sym f))
 outside_told (inf s) lowest highest f = absurd (true≢false (sym f))
 outside_told (fin s m e) lowest highest f = chosen-outside (le_z lowest (whole_of (fin s m e)) && le_z (whole_of (fin s m e)) highest) (whole_of (fin s m e)) (fin s m e)
 
-carried : (x : Float) (lowest highest : ℤ) (r : Step) → Stepped x lowest highest r → is_outside r ≡ true → r ≡ Outside x
+carried : (x : Float) (lowest highest : ℤ) (r : Result ℤ Unread) → Stepped x lowest highest r → is_outside r ≡ true → r ≡ Err (Outside x)
 carried x lowest highest r (is-not-finite n) e = absurd (true≢false (sym e))
 carried x lowest highest r (is-outside f p) e = refl
 carried x lowest highest r (is_whole f l g) e = absurd (true≢false (sym e))
 
-pub outside-step : (x : Float) (lowest highest : ℤ) → is_outside (step_of x lowest highest) ≡ true → step_of x lowest highest ≡ Outside x
+pub outside-step : (x : Float) (lowest highest : ℤ) → is_outside (step_of x lowest highest) ≡ true → step_of x lowest highest ≡ Err (Outside x)
 outside-step x lowest highest = carried x lowest highest (step_of x lowest highest) (stepped x lowest highest)
 
 finite_number : (x : Float) → T (finite x) → is_nan x ≡ false
@@ -64,7 +65,7 @@ finite_number nan f = absurd f
 finite_number (inf s) f = absurd f
 finite_number (fin s m e) f = refl
 
-back-number : (x : Float) (lowest highest : ℤ) (r : Step) → Stepped x lowest highest r → is_nan (handed_back r) ≡ false
+back-number : (x : Float) (lowest highest : ℤ) (r : Result ℤ Unread) → Stepped x lowest highest r → is_nan (handed_back r) ≡ false
 unfolding is_nan
 back-number x lowest highest r (is-not-finite n) = refl
 back-number x lowest highest r (is-outside f p) = finite_number x f
@@ -83,7 +84,7 @@ first-same f g n h e = go (found f n)
     go (at k b before one) =
         first-at f k before one n b ∙ e k one ∙ sym (first-at g k (λ i m. sym (h i (omega arith)) ∙ before i m) (sym (h k b) ∙ one) n b)
 
-module _ (s : ℕ → Step) (n i : ℕ) (h : outside cumulus i < not_finite cumulus 0) (e : first (not_finites cumulus n s ++ outsides cumulus n s) ≡ outside cumulus i) where
+module _ (s : ℕ → Result ℤ Unread) (n i : ℕ) (h : outside cumulus i < not_finite cumulus 0) (e : first (not_finites cumulus n s ++ outsides cumulus n s) ≡ outside cumulus i) where
   all-finite : first (not_finites cumulus n s) ≡ 0
   all-finite = go (dec_lt 0 (first (not_finites cumulus n s)))
     where

@@ -1,6 +1,7 @@
 -- The readings where no step refuses: each is rounded, and lies within its limits.
 --   whole-step                   a step that is neither of the two refusals
 --   step-finite, step-whole, rounded-inside   that it is finite, what such a step holds, and that it is inside
+use Rattle.std.proofs.Common.{Result, Ok}
 use mathlib.Core.Path.{◌≡◌, refl}
 use mathlib.Core.Bool.{true, false, true≢false}
 use mathlib.Core.List.{List}
@@ -16,20 +17,19 @@ use Rattle.layout.specs.Refusals.{first}
 use Rattle.layout.specs.Reading.{inside}
 use Rattle.laws.proofs.Tests.{&&-both, fact-le_z}
 use Rattle.rounding.specs.Reading.{whole_of}
-use Rattle.rounding.specs.declared.Step.{Step}
-use Rattle.rounding.specs.declared.Step.TheVariants.{Whole}
+use Rattle.rounding.specs.declared.Unread.{Unread}
 use Rattle.rounding.proofs.Steps.{Stepped, is-not-finite, is-outside, is_whole, stepped}
 use Rattle.door.specs.Steps.{is_not_finite, is_outside}
 use Rattle.door.specs.Door.{rounded_all, step_at, not_finites, outsides}
 use Rattle.door.proofs.Numbers.{none-not-finite, none-outside}
 
-pub record Rounded (x : Float) (lowest highest : ℤ) (r : Step) : Type 0 where
+pub record Rounded (x : Float) (lowest highest : ℤ) (r : Result ℤ Unread) : Type 0 where
   pub finite : T (Scale.finite x)
-  pub is : r ≡ Whole (whole_of x)
+  pub is : r ≡ Ok (whole_of x)
   pub low : lowest ≤ℤ whole_of x
   pub high : whole_of x ≤ℤ highest
 
-pub whole-step : (x : Float) (lowest highest : ℤ) (r : Step) → Stepped x lowest highest r → is_not_finite r ≡ false → is_outside r ≡ false → Rounded x lowest highest r
+pub whole-step : (x : Float) (lowest highest : ℤ) (r : Result ℤ Unread) → Stepped x lowest highest r → is_not_finite r ≡ false → is_outside r ≡ false → Rounded x lowest highest r
 whole-step x lowest highest r (is-not-finite n) a b = absurd (true≢false a)
 whole-step x lowest highest r (is-outside f p) a b = absurd (true≢false b)
 whole-step x lowest highest r (is_whole f l g) a b = record { finite = f; is = refl; low = l; high = g }
@@ -43,7 +43,7 @@ module _ (t : List ℤ) (x : ℕ → Float) (finite : first (not_finites cumulus
   pub step-finite : T (Scale.finite (x i))
   step-finite = rounded.finite
 
-  pub step-whole : step_at cumulus t x i ≡ Whole (rounded_all x i)
+  pub step-whole : step_at cumulus t x i ≡ Ok (rounded_all x i)
   step-whole = rounded.is
 
   pub rounded-inside : inside cumulus t (rounded_all x) i ≡ true

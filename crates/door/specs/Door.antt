@@ -1,5 +1,5 @@
 -- What a table answers at a float reading of each variable.
-use Rattle.std.specs.Prelude.{Bool, not, cond, ◌&&◌, List, ◌∷◌, ◌++◌, ℕ, ◌-◌, eqb, leb, ltb, ℤ, length, get_or, Float}
+use Rattle.std.specs.Prelude.{Bool, not, cond, ◌&&◌, List, ◌∷◌, ◌++◌, ℕ, ◌-◌, eqb, leb, ltb, ℤ, length, get_or, Float, Result}
 use Rattle.std.specs.Float.{nan}
 use Rattle.polynomials.specs.Sum.{listed}
 use Rattle.polynomials.specs.Groups.{total}
@@ -10,7 +10,7 @@ use Rattle.layout.specs.Sound.{light}
 use Rattle.layout.specs.Refusals.{Refusal, ◌when◌, first, unless_refused, wrong_table, bad_limits, too_heavy, outside}
 use Rattle.rounding.specs.Reading.{whole_of, step_of}
 use Rattle.rounding.specs.Answer.{float_of}
-use Rattle.rounding.specs.declared.Step.{Step}
+use Rattle.rounding.specs.declared.Unread.{Unread}
 use Rattle.thousandths.specs.Thousandths.{at_most_thousandths}
 use Rattle.door.specs.Steps.{positive_zero, number_of, handed_back, is_not_finite, is_outside}
 use Rattle.door.specs.declared.Answer.{Answer}
@@ -24,15 +24,19 @@ abbrev pub rounded_all : (ℕ → Float) → ℕ → ℤ
 rounded_all x i = whole_of (x i)
 
 -- the step of each, within the limits of its variable
-abbrev pub step_at : Shape → List ℤ → (ℕ → Float) → ℕ → Step
+abbrev pub step_at : Shape → List ℤ → (ℕ → Float) → ℕ → Result ℤ Unread
 step_at S t x i = step_of (x i) (lowest S t i) (highest S t i)
 
 -- the refusals of the first n steps: of those that are not finite, and of those that are outside
-abbrev pub not_finites : Shape → ℕ → (ℕ → Step) → List Refusal
+abbrev pub not_finites : Shape → ℕ → (ℕ → Result ℤ Unread) → List Refusal
 not_finites S n s = listed n (λ i. number_of S i (s i) when is_not_finite (s i))
 
-abbrev pub outsides : Shape → ℕ → (ℕ → Step) → List Refusal
+abbrev pub outsides : Shape → ℕ → (ℕ → Result ℤ Unread) → List Refusal
 outsides S n s = listed n (λ i. number_of S i (s i) when is_outside (s i))
+
+-- the number that the steps give: over all of them one that is not finite comes first
+abbrev pub steps_number : Shape → (ℕ → Result ℤ Unread) → ℕ
+steps_number S s = first (not_finites S S.variables s ++ outsides S S.variables s)
 
 -- what may be refused, in order
 abbrev pub door_refusals : Shape → List ℤ → (ℕ → Float) → List Refusal
@@ -51,7 +55,7 @@ abbrev pub for_outside : Shape → ℕ → Bool
 for_outside S n = leb (outside S 0) n && ltb n (outside S S.variables)
 
 -- the reading handed back: that of the variable which the number n names as outside, and positive zero with any other number
-abbrev pub reading_for : Shape → (ℕ → Step) → ℕ → Float
+abbrev pub reading_for : Shape → (ℕ → Result ℤ Unread) → ℕ → Float
 reading_for S s n = cond (for_outside S n) (handed_back (s (n - outside S 0))) positive_zero
 
 unfoldable pub door_reading : Shape → List ℤ → (ℕ → Float) → Float

@@ -4,16 +4,14 @@
 ghost use Rattle.std.specs.Prelude.{◌≡◌, ◌+◌, ◌*◌, ◌≤◌, false, T, unsigned_abs};
 ghost use Rattle.std.specs.Float.Ieee.Exact.{HasValue};
 ghost use Rattle.std.specs.Float.Ieee.Positive.{num, den, positive};
-ghost use Rattle.std.specs.Float.Ieee.Scale.{finite};
 ghost use Rattle.whole.specs.Nearest.{nearest_up};
 ghost use Rattle.rounding.specs.Reading.{whole_of, step_of};
 ghost use Rattle.rounding.specs.Ready.{farthest_end, farthest_near, Near};
 ghost use Rattle.rounding.specs.Answer.{float_of};
 
-// What one float reading is, within a lowest and a highest whole number.
+// Why a float reading has no whole number within its limits; one outside them is handed back as given.
 #[derive(Clone, Copy)]
-pub enum Step {
-    Whole(i64),
+pub enum Unread {
     NotFinite,
     Outside(f64),
 }
@@ -33,8 +31,8 @@ fn half_above(q: u64) -> f64
 
 // The whole number nearest to a, by the side of the half above its whole part; the half itself goes up.
 fn nearest_magnitude(a: f64) -> u64
-    requires fact_1 { T (positive a) }
-    requires fact_2 { num a ≤ farthest_near * den a }
+    requires above_zero { T (positive a) }
+    requires near { num a ≤ farthest_near * den a }
     ensures { result ≡ nearest_up (den a) (num a) }
 {
     let q = std::num::truncating_f64_to_u64(a);
@@ -55,35 +53,23 @@ fn nearest_whole(x: f64) -> i64
     }
 }
 
-// Whether x lies between the infinities, as a NaN does not.
-fn is_finite(x: f64) -> bool
-    ensures { result ≡ finite x }
-{
-    -1.0 / 0.0 < x && x < 1.0 / 0.0
-}
-
 // The nearest whole number to x where it lies within the limits; a float that is not near lies outside of any.
-pub fn step_of(x: f64, lowest: i64, highest: i64) -> Step
-    requires fact_1 { unsigned_abs lowest ≤ farthest_end }
-    requires fact_2 { unsigned_abs highest ≤ farthest_end }
+pub fn step_of(x: f64, lowest: i64, highest: i64) -> Result<i64, Unread>
+    requires lowest_in_range { unsigned_abs lowest ≤ farthest_end }
+    requires highest_in_range { unsigned_abs highest ≤ farthest_end }
     ensures { result ≡ step_of x lowest highest }
 {
-    if !is_finite(x) {
-        Step::NotFinite
-    } else if x < LEAST_NEAR {
-        Step::Outside(x)
-    } else if MOST_NEAR < x {
-        Step::Outside(x)
-    } else {
-        let z = nearest_whole(x);
-        if z < lowest {
-            Step::Outside(x)
-        } else if highest < z {
-            Step::Outside(x)
-        } else {
-            Step::Whole(z)
-        }
+    if !x.is_finite() {
+        return Err(Unread::NotFinite);
     }
+    if x < LEAST_NEAR || MOST_NEAR < x {
+        return Err(Unread::Outside(x));
+    }
+    let z = nearest_whole(x);
+    if z < lowest || highest < z {
+        return Err(Unread::Outside(x));
+    }
+    Ok(z)
 }
 
 // A whole number of 10^-17 as the nearest f64 whole number (half to even), divided once by 10^17. Zero gives positive zero.

@@ -13,7 +13,7 @@ const DIGITS: u64 = 4503599627370496;
 const SIGN: u64 = 9223372036854775808;
 
 // A magnitude: digits / 2^shift.
-#[derive(Drop)]
+#[derive(Clone, Copy)]
 struct Parts {
     digits: u64,
     shift: u64,
@@ -44,7 +44,7 @@ fn parts_of(x: f64) -> Parts
 fn shifted_down(z: i64, shift: u64) -> i64
     ensures { result ≡ rounded_down (2 ^ shift) z }
 {
-    if shift < 63 { z >> shift } else { z >> 63 }
+    z >> shift.min(63)
 }
 
 // The least whole number of thousandths that x is at most: 1000 x rounded up. Below zero the magnitude is rounded down for that, as a shift does.

@@ -1,4 +1,5 @@
 -- The floating-point door. A step is what one reading comes to (`step_at`); `number_of` and `handed_back` give each case of a step its number and its float.
+use Rattle.std.proofs.Common.{Ok, Err}
 use mathlib.Core.Path.{◌≡◌, refl}
 use mathlib.Core.Logic.{◌↔◌}
 use mathlib.Core.Bool.{Bool, true, false, not, cond, ◌&&◌}
@@ -22,7 +23,7 @@ use Rattle.layout.specs.Reading.{inside, piece_at, read_number, read_output}
 use Rattle.rounding.specs.Value.{numerator, denominator}
 use Rattle.rounding.specs.Reading.{whole_of, step_of}
 use Rattle.rounding.specs.Answer.{nearest_even, float_of}
-use Rattle.rounding.specs.declared.Step.TheVariants.{Whole, NotFinite, Outside}
+use Rattle.rounding.specs.declared.Unread.TheVariants.{NotFinite, Outside}
 use Rattle.rounding.proofs.Nearest.{reading-nearest, reading-unique}
 use Rattle.rounding.proofs.Steps.{step_is, zero-step}
 use Rattle.rounding.proofs.Answers.{zero-positive}
@@ -34,7 +35,7 @@ use Rattle.door.proofs.Answers.{number-told, number_read, value-in-piece, value_
 
 -- ════ The step of one reading
 -- Positive and negative zero both read as 0.
-pub door-reads-both-zeros : (negative : Bool) (lowest highest : ℤ) → le_z lowest (pos 0) && le_z (pos 0) highest ≡ true → step_of (fin negative 0 (pos 0)) lowest highest ≡ Whole (pos 0)
+pub door-reads-both-zeros : (negative : Bool) (lowest highest : ℤ) → le_z lowest (pos 0) && le_z (pos 0) highest ≡ true → step_of (fin negative 0 (pos 0)) lowest highest ≡ Ok (pos 0)
 door-reads-both-zeros = zero-step
 
 module _ (t : List ℤ) (x : ℕ → Float) where
@@ -47,7 +48,7 @@ module _ (t : List ℤ) (x : ℕ → Float) where
   door-rounding-unique i z = reading-unique (x i) z
 
   -- A finite reading is that whole number where it is inside the limits, and otherwise outside with the float as given; any other is not finite.
-  pub door-step : (i : ℕ) → step_at cumulus t x i ≡ cond (finite (x i)) (cond (inside cumulus t (rounded_all x) i) (Whole (rounded_all x i)) (Outside (x i))) NotFinite
+  pub door-step : (i : ℕ) → step_at cumulus t x i ≡ cond (finite (x i)) (cond (inside cumulus t (rounded_all x) i) (Ok (rounded_all x i)) (Err (Outside (x i)))) (Err NotFinite)
   door-step i = step_is (x i) (lowest cumulus t i) (highest cumulus t i)
 
   -- ════ The number
@@ -107,7 +108,7 @@ module _ (t : List ℤ) (x : ℕ → Float) where
 
   -- ════ The reading handed back
   -- With 11 to 15 the step of that variable is outside, and what it carries, the float as given, is handed back.
-  pub door-hands-back-outside : (i : ℕ) → i < cumulus.variables → door_number cumulus t x ≡ outside cumulus i → (step_at cumulus t x i ≡ Outside (x i)) × (door_reading cumulus t x ≡ handed_back (step_at cumulus t x i))
+  pub door-hands-back-outside : (i : ℕ) → i < cumulus.variables → door_number cumulus t x ≡ outside cumulus i → (step_at cumulus t x i ≡ Err (Outside (x i))) × (door_reading cumulus t x ≡ handed_back (step_at cumulus t x i))
   door-hands-back-outside = reading_step t x
 
   -- With every other number, 0 included, that place is positive zero.
