@@ -12,7 +12,7 @@ use operations::operate;
 use spaces::keeping::keep;
 use spaces::rooms::{ALL, ROOM};
 use texts::{LINE, OUT, put_byte, put_text};
-use uses::put_use;
+use uses::usage;
 
 // The most bytes of an answer: the numbers of a space, each with a minus, 19 digits and what parts it from the next.
 pub const LONGEST: usize = ROOM * 21;
@@ -22,9 +22,10 @@ fn obey(line: &[u8], spaces: &mut [i64; ALL], out: &mut [u8; OUT], at: usize) ->
     match command {
         Command::Blank => at,
         Command::Comment => put_text(line, out, at),
-        Command::Misused { name } => put_use(name, out, at),
-        Command::Operation { operation } => operate(operation, spaces, out, at),
-        Command::Keeping { keeping } => keep(keeping, spaces, out, at),
+        Command::Unknown => put_text(b"? no such command", out, at),
+        Command::Misused(name) => put_text(usage(name), out, at),
+        Command::Operation(operation) => operate(operation, spaces, out, at),
+        Command::Keeping(keeping) => keep(keeping, spaces, out, at),
     }
 }
 
