@@ -6,8 +6,8 @@ use scripts::LONGEST;
 use spaces::rooms::{ALL, SPACE};
 use std::io;
 use std::io::{ErrorKind, Read, Write};
-use streams::{End, Outcome};
-use texts::{LINE, OUT, least};
+use streams::Fault;
+use texts::{LINE, OUT};
 
 // How many bytes of the line are held, and where the answers end, where all that had to be written could be.
 #[derive(Clone, Copy)]
@@ -17,13 +17,8 @@ struct Told {
 }
 
 fn write_out<W: Write>(out: &[u8], at: usize, to: &mut W) -> io::Result<()> {
-    let from = 0;
-    let end = least(at, out.len());
-    match streams::write(to, &out[from..end]) {
-        Outcome::Moved(_) => Ok(()),
-        Outcome::Again => unreachable!(),
-        Outcome::Failed(error) => Err(error),
-    }
+    streams::write(to, &out[..at.min(out.len())])?;
+    Ok(())
 }
 
 // Writes out what is there, where the longest answer has no room behind it.
@@ -67,12 +62,9 @@ fn take_piece<W: Write>(
     out: &mut [u8; OUT],
     to: &mut W,
 ) -> io::Result<Told> {
-    let mut told = Told { held: held, at: 0 };
-    let mut k: usize = 0;
-    while k < piece.len() {
-        let byte = piece[k];
-        told = take_byte(byte, line, told, spaces, out, to)?;
-        k += 1;
+    let mut told = Told { held, at: 0 };
+    for byte in piece {
+        told = take_byte(*byte, line, told, spaces, out, to)?;
     }
     Ok(told)
 }
@@ -84,17 +76,15 @@ fn finish<W: Write>(
     spaces: &mut [i64; ALL],
     out: &mut [u8; OUT],
     to: &mut W,
-) -> End {
-    if held > 0 {
-        let end = scripts::answer(line, held, spaces, out, 0);
-        if let Err(error) = write_out(out, end, to) {
-            return End::Unwritten(error);
-        }
+) -> io::Result<()> {
+    if held == 0 {
+        return Ok(());
     }
-    End::Done
+    let end = scripts::answer(line, held, spaces, out, 0);
+    write_out(out, end, to)
 }
 
-// Up to the end of the input. A proved loop has to end, so it counts its turns down from a number that no run uses up.
+// Up to the end of the input. A proved loop has to end, so it has a number of turns that no run uses up.
 fn run<R: Read, W: Write>(
     line: &mut [u8; LINE],
     spaces: &mut [i64; ALL],
@@ -102,30 +92,18 @@ fn run<R: Read, W: Write>(
     out: &mut [u8; OUT],
     input: &mut R,
     to: &mut W,
-) -> End {
+) -> Result<(), Fault> {
     let mut held: usize = 0;
-    let mut turns = u64::MAX;
-    while turns > 0 {
-        turns -= 1;
-        let from = 0;
-        let n = match streams::read(input, buf) {
-            Outcome::Moved(n) => n,
-            Outcome::Again => unreachable!(),
-            Outcome::Failed(error) => return End::Unread(error),
-        };
+    for _ in 0..u64::MAX {
+        let n = streams::read(input, buf).map_err(Fault::Unread)?;
         if n == 0 {
-            return finish(line, held, spaces, out, to);
+            return finish(line, held, spaces, out, to).map_err(Fault::Unwritten);
         }
-        let told = match take_piece(&buf[from..n], line, held, spaces, out, to) {
-            Ok(told) => told,
-            Err(error) => return End::Unwritten(error),
-        };
-        if let Err(error) = write_out(out, told.at, to) {
-            return End::Unwritten(error);
-        }
+        let told = take_piece(&buf[..n], line, held, spaces, out, to).map_err(Fault::Unwritten)?;
+        write_out(out, told.at, to).map_err(Fault::Unwritten)?;
         held = told.held;
     }
-    End::Unread(io::Error::from(ErrorKind::TimedOut))
+    Err(Fault::Unread(io::Error::from(ErrorKind::TimedOut)))
 }
 
 // Each space starts with the length of a table.
