@@ -22,6 +22,7 @@ use Rattle.layout.specs.Sound.{light, reach}
 use Rattle.layout.specs.Refusals.{first, ◌when◌}
 use Rattle.layout.specs.Reading.{readings, inside}
 use Rattle.laws.proofs.LimitLaws.{limits-take, lowest-same, highest-same}
+use Rattle.laws.proofs.Refused.{refused-positive}
 use Rattle.tables.proofs.Steps.{first-apart}
 use Rattle.rounding.specs.Reading.{step_of}
 use Rattle.rounding.specs.Ready.{Near}
@@ -36,7 +37,7 @@ use Rattle.door.proofs.Wholes.{step-finite, step-whole, rounded-inside}
 use Rattle.door.proofs.Pieces.{near-alpha, within-piece}
 
 number-pos : (why : Unanswered) → Refuses why → 0 < number_given why
-number-pos (Table n) h = h
+number-pos (Table r) h = refused-positive r
 number-pos (Reading i NotFinite) h = omega arith
 number-pos (Reading i (Outside x)) h = omega arith
 

@@ -2,7 +2,7 @@
 use Rattle.std.specs.Prelude.{Bool, true, false, List, ℕ, ◌+◌, ◌<◌, ℤ, pos, get_or, Float, Result, Ok, Err}
 use Rattle.std.specs.Float.{fin}
 use Rattle.layout.specs.Shape.{Shape, cumulus}
-use Rattle.layout.specs.Refusals.{done, outside, not_finite_number}
+use Rattle.layout.specs.Refusals.{done, outside, not_finite_number, refusal_number}
 use Rattle.rounding.specs.declared.Unread.{Unread}
 use Rattle.rounding.specs.declared.Unread.TheVariants.{NotFinite, Outside}
 use Rattle.door.specs.declared.Unanswered.{Unanswered}
@@ -49,14 +49,14 @@ steps_of l i = get_or l i (Ok (pos 0))
 
 -- the number that a refusal gives, and the float that it hands back
 abbrev pub number_given : Unanswered → ℕ
-number_given (Table n) = n
+number_given (Table r) = refusal_number r
 number_given (Reading i why) = number_of cumulus i (Err why)
 
 abbrev pub back_given : Unanswered → Float
-back_given (Table n) = positive_zero
+back_given (Table r) = positive_zero
 back_given (Reading i why) = handed_back (Err why)
 
--- it refuses: the table's number is not that of an answer, and a variable that it names is one of the state's
+-- a variable that it names is one of the state's
 abbrev pub Refuses : Unanswered → Type 0
-Refuses (Table n) = 0 < n
+Refuses (Table r) = Unit {0}
 Refuses (Reading i why) = i < cumulus.variables

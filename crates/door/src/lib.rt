@@ -18,7 +18,7 @@ ghost use Rattle.door.specs.Door.{floats, step_at, steps_number, reading_for, an
 
 use layout::Model;
 use layout::cumulus_one::{BLOCKS, VARIABLES};
-use layout::refusals::{DONE, NOT_FINITE, OUTSIDE};
+use layout::refusals::{DONE, Refused};
 use limits::{HIGH, LOW, Limits};
 use rounding::Unread;
 use tables::reading::write_values;
@@ -42,7 +42,7 @@ pub struct Answer {
 // Why a state of floats is not answered: by the table's refusal, or by a reading, with the place of its variable.
 #[derive(Clone, Copy)]
 enum Unanswered {
-    Table(u64),
+    Table(Refused),
     Reading(usize, Unread),
 }
 
@@ -52,9 +52,14 @@ fn refused(why: Unanswered) -> Answer
     ensures { result ≡ refused_with (number_given why) (back_given why) }
 {
     let (number, reading) = match why {
-        Unanswered::Table(number) => (number, 0.0),
-        Unanswered::Reading(i, Unread::NotFinite) => (NOT_FINITE + i as u64, 0.0),
-        Unanswered::Reading(i, Unread::Outside(reading)) => (OUTSIDE + i as u64, reading),
+        Unanswered::Table(refused) => (refused.number(), 0.0),
+        Unanswered::Reading(i, Unread::NotFinite) => {
+            let refused = Refused::NotFinite(shapes::angle(Model::Cumulus, i));
+            (refused.number(), 0.0)
+        }
+        Unanswered::Reading(i, Unread::Outside(reading)) => {
+            (shapes::outside(Model::Cumulus, i).number(), reading)
+        }
     };
     Answer {
         number,
@@ -145,9 +150,8 @@ fn answered(table: &[i64], piece: usize, state: [i64; VARIABLES]) -> Answer
 fn read(table: &[i64], readings: [f64; VARIABLES]) -> Result<Answer, Unanswered>
     ensures { MatchResult result (λ answer. answer ≡ door_answer table.now (floats readings)) (λ why. Refuses why × (refused_with (number_given why) (back_given why) ≡ door_answer table.now (floats readings))) }
 {
-    let unsound = refusal_of(Model::Cumulus, table);
-    if unsound != DONE {
-        return Err(Unanswered::Table(unsound));
+    if let Err(refused) = refusal_of(Model::Cumulus, table) {
+        return Err(Unanswered::Table(refused));
     }
     let limits = Limits::of(Model::Cumulus, table);
     let state = wholes_in(steps_of(limits, readings))?;

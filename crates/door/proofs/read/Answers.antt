@@ -18,7 +18,9 @@ use Rattle.layout.proofs.Fine.{well-formed}
 use Rattle.laws.proofs.Weights.{total-agreed}
 use Rattle.laws.proofs.LimitLaws.{limits-take, fine-same, all_in_range-same, good-facts, counted-half, counted-piece}
 use Rattle.tables.specs.Ready.{table_number}
-use Rattle.tables.proofs.Steps.{known-sound, valued-in, positive}
+use Rattle.layout.specs.Refusals.{refusal_number}
+use Rattle.laws.proofs.Refused.{refused-positive}
+use Rattle.tables.proofs.Steps.{known-sound, valued-in}
 use Rattle.rounding.specs.Answer.{float_of}
 use Rattle.thousandths.specs.Thousandths.{at_most_thousandths}
 use Rattle.door.specs.Steps.{positive_zero}
@@ -27,37 +29,39 @@ use Rattle.door.proofs.Numbers.{door-refused, table-small, back_below, refused-a
 use Rattle.door.proofs.Sound.{refuses, done, near, state-is, within}
 use Rattle.door.proofs.read.Goals as goal
 
-known : (t : List ℤ) (n : ℕ) → n ≡ table_number cumulus t → n ≡ 0 → (length t ≡ table_length cumulus) × ((good cumulus t ≡ true) × (light cumulus t ≡ true))
-known t n e z = known-sound cumulus t (sym e ∙ z)
+known : (t : List ℤ) → 0 ≡ table_number cumulus t → (length t ≡ table_length cumulus) × ((good cumulus t ≡ true) × (light cumulus t ≡ true))
+known t e = known-sound cumulus t (sym e)
 
-pub returns-then-unsound-ne-DONE : goal.returns-then-unsound-ne-DONE
-returns-then-unsound-ne-DONE c =
+pub returns-in-Err : goal.returns-in-Err
+returns-in-Err c =
     let t = c.args.table.now in
     let x = floats c.args.readings in
-    let n = c.refusal_of-unsound.result in (
-      positive c.if-unsound-ne-DONE.true,
-      refused-answer t x n positive_zero (door-refused t x n c.refusal_of-unsound.ensures c.if-unsound-ne-DONE.true) (positive c.if-unsound-ne-DONE.true)
-          (back_below (step_at cumulus t x) n (subst (λ k. k < 11) (sym c.refusal_of-unsound.ensures) (table-small t))),
+    let n = refusal_number c.in-Err.refused in
+    let h = refused-positive c.in-Err.refused in
+    let e = c.in-Err.ensures in (
+      tt,
+      refused-answer t x n positive_zero (door-refused t x n e (λ z. omega (arith, z, h))) h
+          (back_below (step_at cumulus t x) n (subst (λ k. k < 11) (sym e) (table-small t))),
     )
 
 pub of-limits-requires : goal.of-limits-requires
-of-limits-requires c = omega (arith, (known c.args.table.now c.refusal_of-unsound.result c.refusal_of-unsound.ensures c.if-unsound-ne-DONE.false).0)
+of-limits-requires c = omega (arith, (known c.args.table.now c.in_default.ensures).0)
 
 pub steps_of-requires-clause-in_range : goal.steps_of-requires-clause-in_range
 steps_of-requires-clause-in_range c =
-    let k = known c.args.table.now c.refusal_of-unsound.result c.refusal_of-unsound.ensures c.if-unsound-ne-DONE.false in
+    let k = known c.args.table.now c.in_default.ensures in
     ap (all_in_range cumulus) c.of-limits.ensures.1 ∙ all_in_range-same (limits-take cumulus c.args.table.now) ∙ (good-facts cumulus c.args.table.now k.1.0).range
 
 pub returns-in_err-state : goal.returns-in_err-state
 returns-in_err-state c =
-    let k = known c.args.table.now c.refusal_of-unsound.result c.refusal_of-unsound.ensures c.if-unsound-ne-DONE.false in
+    let k = known c.args.table.now c.in_default.ensures in
     let f = c.in_err-state.ensures.err in
     let r = err_from_is_err_and c.from_residual.result c.from_residual.ensures.1 in
     rw (r.1 ∙ ap Err r.2) (f.0, refuses c.args.table.now (floats c.args.readings) k.0 k.1 c.of-limits.result.numbers c.of-limits.ensures.1 c.steps_of.result c.steps_of.ensures _ f.0 f.1 f.2)
 
 pub true_piece-piece-requires-clause-near : goal.true_piece-piece-requires-clause-near
 true_piece-piece-requires-clause-near c =
-    let k = known c.args.table.now c.refusal_of-unsound.result c.refusal_of-unsound.ensures c.if-unsound-ne-DONE.false in
+    let k = known c.args.table.now c.in_default.ensures in
     near c.args.table.now (floats c.args.readings) k.0 k.1 c.of-limits.result.numbers c.of-limits.ensures.1 c.steps_of.result c.steps_of.ensures c.in_ok-state.ensures.ok.0
 
 -- the piece, by what the comparison says
@@ -75,7 +79,7 @@ pub answered-requires : goal.answered-requires
 answered-requires c =
     let t = c.args.table.now in
     let x = floats c.args.readings in
-    let k = known t c.refusal_of-unsound.result c.refusal_of-unsound.ensures c.if-unsound-ne-DONE.false in
+    let k = known t c.in_default.ensures in
     let o = c.of-limits.ensures.1 in
     let f = c.in_ok-state.ensures.ok in
     let state = c.in_ok-state.state in
@@ -88,7 +92,7 @@ pub returns : goal.returns
 returns c =
     let t = c.args.table.now in
     let x = floats c.args.readings in
-    let k = known t c.refusal_of-unsound.result c.refusal_of-unsound.ensures c.if-unsound-ne-DONE.false in
+    let k = known t c.in_default.ensures in
     let o = c.of-limits.ensures.1 in
     let f = c.in_ok-state.ensures.ok in
     let n = c.true_piece-piece.result in
