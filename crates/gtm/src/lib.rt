@@ -94,8 +94,7 @@ pub fn publish(out: &mut [i64]) -> u64
     ensures number { result ≡ publish_number published out.old }
     ensures output { out.new ≡ publish_output published out.old }
 {
-    let table = PUBLISHED;
-    tables::publishing::publish(&table, out)
+    tables::publishing::publish(&PUBLISHED, out)
 }
 
 // Reads lift, drag and pitching moment of a table at a state of two whole milliradians, alpha and eta, into `out`, or refuses and leaves `out` as it was.
@@ -103,9 +102,8 @@ pub fn read(table: &[i64], state: [i64; VARIABLES], out: &mut [i64]) -> u64
     ensures number { result ≡ read_number gtm table.now (readings state) out.old }
     ensures output { out.new ≡ read_output gtm table.now (readings state) out.old }
 {
+    let [alpha, eta] = state;
     let refused = refusal_into(Model::Gtm, table, out.len());
-    let alpha = state[0];
-    let eta = state[1];
     read_known(Model::Gtm, table, refused, [alpha, eta, 0, 0, 0], out)
 }
 

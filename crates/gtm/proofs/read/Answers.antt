@@ -3,15 +3,14 @@ use mathlib.Core.Path.{◌≡◌, refl, ◌∙◌, ap, ap₂, fun_ext}
 use mathlib.Core.List.{List, [], ◌∷◌}
 use Prim.Native.Nat.{ℕ, zero, suc}
 use native.Mathlib.Omega.{arith}
+use borrow.Author.Rules.{rules}
 use mir.Syntax.{w64}
-use borrow.Author.Rules.{rules, sfits_of}
+use mir.Val.{to_z, of_z}
 use lib.IntN.{ℤ, pos}
 use lib.ListN.{length, get_or}
-use mir.Facts.{to_z-of_z}
 use Rattle.layout.specs.Shape.{gtm}
 use Rattle.layout.specs.Reading.{readings, read_number, read_output}
-use Rattle.gtm.proofs.read.Statement.{statement}
-use Rattle.gtm.proofs.read.Tie as tie
+use Rattle.gtm.proofs.read.Goals as goal
 
 abbrev in_room : ℤ → ℤ → List ℤ
 in_room a e = a ∷ e ∷ pos 0 ∷ pos 0 ∷ pos 0 ∷ []
@@ -34,35 +33,18 @@ readings-of (x ∷ []) h p q = absurd (omega arith)
 readings-of (x ∷ y ∷ []) h p q = ap₂ (λ a e. readings (in_room a e)) p q ∙ readings-are x y
 readings-of (x ∷ y ∷ z ∷ s) h p q = absurd (omega arith)
 
-refusal-into-requires : tie.Need-refusal_into-refused-requires
-refusal-into-requires c κs = search rules
+pub returns-clause-number : goal.returns-clause-number
+returns-clause-number c =
+    let s = c.args.state in
+    let two : 2 ≡ length s = search rules in
+    let alpha : to_z w64 (of_z w64 (get_or s 0 (pos 0))) ≡ get_or s 0 (pos 0) = search rules in
+    let eta : to_z w64 (of_z w64 (get_or s 1 (pos 0))) ≡ get_or s 1 (pos 0) = search rules in
+    c.read_known.ensures.number ∙ ap (λ y. read_number gtm c.args.table.now y c.args.out.now) (readings-of s two alpha eta)
 
-array-copy-out-alpha : tie.Need-bounds-state-0
-array-copy-out-alpha c = search rules
-
-array-copy-out-eta : tie.Need-bounds-state-1
-array-copy-out-eta c = search rules
-
-read-known-requires : tie.Need-read_known-requires
-read-known-requires c κs = search rules
-
-same_length : tie.Need-shape_of-out
-same_length c = search rules
-
-two : (a : tie.Start) → 2 ≡ length a.args.state
-two a = search rules
-
-returns : tie.Need-returns
-returns c =
-    let r = c.before.read_known.ensures in
-    let e = c.before.before.before in
-    let d = e.before in
-    let a = d.before.before in
-    let t = a.args.table.now in
-    let x = readings-of a.args.state (two a) (to_z-of_z {w = w64} (sfits_of {z = get_or a.args.state 0 (pos 0)} d.alpha-1.given)) (to_z-of_z {w = w64} (sfits_of {z = get_or a.args.state 1 (pos 0)} e.eta-1.given)) in
-    (r.0 ∙ ap (λ y. read_number gtm t y a.args.out.now) x, r.1 ∙ ap (λ y. read_output gtm t y a.args.out.now) x)
-
-pub read_spec : {M : Type 1} → statement M
-read_spec =
-    tie.close
-    (tie.spec refusal-into-requires array-copy-out-alpha array-copy-out-eta read-known-requires same_length returns)
+pub returns-clause-output : goal.returns-clause-output
+returns-clause-output c =
+    let s = c.args.state in
+    let two : 2 ≡ length s = search rules in
+    let alpha : to_z w64 (of_z w64 (get_or s 0 (pos 0))) ≡ get_or s 0 (pos 0) = search rules in
+    let eta : to_z w64 (of_z w64 (get_or s 1 (pos 0))) ≡ get_or s 1 (pos 0) = search rules in
+    c.read_known.ensures.output ∙ ap (λ y. read_output gtm c.args.table.now y c.args.out.now) (readings-of s two alpha eta)
