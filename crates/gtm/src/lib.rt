@@ -96,8 +96,7 @@ pub fn publish(out: &mut [i64]) -> Result<(), Refused>
     ensures number { given_back result ≡ publish_number published out.old }
     ensures output { out.new ≡ publish_output published out.old }
 {
-    let table = PUBLISHED;
-    tables::publishing::publish(&table, out)
+    tables::publishing::publish(&PUBLISHED, out)
 }
 
 // Reads lift, drag and pitching moment of a table at a state of two whole milliradians, alpha and eta, into `out`, or refuses and leaves `out` as it was.
@@ -105,9 +104,8 @@ pub fn read(table: &[i64], state: [i64; VARIABLES], out: &mut [i64]) -> Result<(
     ensures number { given_back result ≡ read_number gtm table.now (readings state) out.old }
     ensures output { out.new ≡ read_output gtm table.now (readings state) out.old }
 {
+    let [alpha, eta] = state;
     let known = refusal_into(Model::Gtm, table, out.len());
-    let alpha = state[0];
-    let eta = state[1];
     read_known(Model::Gtm, table, known, [alpha, eta, 0, 0, 0], out)
 }
 

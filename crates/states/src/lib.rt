@@ -14,49 +14,22 @@ ghost use Rattle.states.specs.Ready.{SoundReads};
 
 use layout::refusals::{Refused, given_back};
 use layout::{Model, VARIABLES_ROOM};
+use std::array;
 use tables::reading::read_sound;
 use tables::soundness::soundness;
 
 // Whether a count of numbers is `each` for every one of n. The product itself might not fit.
 fn fits(count: usize, each: usize, n: usize) -> bool
-    requires { 0 < each }
     ensures { result ≡ eqb count (each * n) }
 {
-    (count % each == 0) & (count / each == n)
-}
-
-fn clear(out: &mut [i64])
-    ensures { out.new ≡ listed (length out.old) (λ k. pos 0) }
-{
-    let mut k: usize = 0;
-    while k < out.len() {
-        out[k] = 0;
-        k += 1;
-    }
-}
-
-// The reading of a variable.
-fn reading_of(state: &[i64], variable: usize) -> i64
-    ensures { result ≡ readings state.now variable }
-{
-    if variable < state.len() {
-        return state[variable];
-    }
-    0
+    each.checked_mul(n) == Some(count)
 }
 
 // The readings of a state by value.
 fn held(state: &[i64]) -> [i64; VARIABLES_ROOM]
     ensures { result ≡ listed variables_room (readings state.now) }
 {
-    let mut held: [i64; VARIABLES_ROOM] = [0; VARIABLES_ROOM];
-    let mut i: usize = 0;
-    while i < VARIABLES_ROOM {
-        let reading = reading_of(state, i);
-        held[i] = reading;
-        i += 1;
-    }
-    held
+    array::from_fn(|variable| state.get(variable).copied().unwrap_or(0))
 }
 
 // Reads one state of a sound table into zeros.
@@ -70,7 +43,7 @@ fn read_cleared(
     ensures number { given_back result ≡ read_number (shape model) table.now (readings state) (zeros (shape model)) }
     ensures output { out.new ≡ read_output (shape model) table.now (readings state) (zeros (shape model)) }
 {
-    clear(out);
+    out.fill(0);
     read_sound(model, table, state, out)
 }
 
@@ -82,17 +55,11 @@ fn read_each(model: Model, table: &[i64], states: &[i64], numbers: &mut [u64], o
 {
     let variables = shapes::variables(model);
     let blocks = shapes::blocks(model);
-    let mut from: usize = 0;
-    let mut at: usize = 0;
-    let mut k: usize = 0;
-    while k < numbers.len() {
-        let to = from + variables;
-        let end = at + blocks;
-        let state = held(&states[from..to]);
-        numbers[k] = given_back(read_cleared(model, table, state, &mut out[at..end]));
-        from = to;
-        at = end;
-        k += 1;
+    for (k, number) in numbers.iter_mut().enumerate() {
+        let from = variables * k;
+        let at = blocks * k;
+        let state = held(&states[from..from + variables]);
+        *number = given_back(read_cleared(model, table, state, &mut out[at..at + blocks]));
     }
 }
 
