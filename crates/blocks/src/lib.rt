@@ -19,7 +19,9 @@ use shifting::Rows;
 // Low and high, each with a group of its own, which come first in a block.
 const PIECES: usize = 2;
 
-// The value of the group of a kind that starts at a place of a table, at a state.
+// The value of the group of a kind that starts at a place of a table, at a state. Out of line it makes a read a quarter longer, and past
+// the stack that README.md promises.
+#[inline(always)]
 fn group_at(table: &[i64], start: usize, kind: Kind, state: &[i64]) -> i64
     requires low { kind.degree ≤ highest_degree }
     requires group { GroupAt table.now start (size kind.degree) kind.u kind.v state.now }

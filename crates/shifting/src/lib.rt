@@ -80,7 +80,7 @@ fn gap(degree: usize, which: Variable) -> usize
 }
 
 // The number that stands before the power p of the variable beside the power `beside` of the other, at the place `at`, once the group is
-// moved by s: the larger powers of the variable stand further and further on, and each gives its number times what stands before p in its row.
+// moved: the larger powers of the variable stand further and further on, and each gives its number times what stands before p in its row.
 fn moved_number(
     from: &[i64],
     which: Variable,
@@ -105,8 +105,8 @@ fn moved_number(
     sum
 }
 
-// The group moved by s in one variable, written into `out`, by the powers of v + s multiplied out. It goes chain by chain: the numbers that
-// differ only in the power of the variable, beside the power 0 of the other, beside its power 1, and so on.
+// The group moved in one variable by the shift of the rows, written into `out`. It goes chain by chain: the numbers that differ only in the
+// power of the variable, beside the power 0 of the other, beside its power 1, and so on.
 pub fn move_group(from: &[i64], out: &mut [i64], which: Variable, rows: &Rows)
     requires movable { Movable which (shift_in rows.now.numbers) from.now }
     requires same_length { length out.old ≡ length from.now }

@@ -34,19 +34,16 @@ module _ (w : Variable) (s : ℤ) (l : List ℤ) where
   unfolding moved_at
   number-there b p = let e = powers-place (own w p b) (own w b p) in ap₂ (moved_number ints w s l) (sym e.0) (sym e.1)
 
-  -- at a turn of the loop over a chain, and at one of the loop over the chains
-  degree : {out : List ℤ} {b p at : ℕ} → Stands w s l out b p at → at < length l → Movable w s l → b + p < 5
+  low : Movable w s l → (b p : ℕ) {at : ℕ} → at ≡ chain w b p → at < length l → b + p < 5
   unfolding below
-  degree {out} {b} {p} {at} t h m = chain-degree w 5 b p (omega (arith, t.here, h, m.few))
+  low m b p e h = chain-degree w 5 b p (omega (arith, e, h, m.few))
 
   -- a number is written, and the loop goes on to the next of the chain
-  more : (out : List ℤ) (b p at step : ℕ) (v : ℤ) → at < length l → Stands w s l out b p at → step ≡ gap w (b + p) → v ≡ moved_at w s l (chain w b p) → Stands w s l (set out at v) b (p + 1) (at + step)
+  more : Movable w s l → (out : List ℤ) (b p at step : ℕ) (v : ℤ) → at < length l → Stands w s l out b p at → step ≡ gap w (b + p) → v ≡ moved_at w s l (chain w b p) → Stands w s l (set out at v) b (p + 1) (at + step)
   unfolding Filled
-  more out b p at step v h t g e = record {
-    long = length-set out at v ∙ t.long;
-    here = omega (arith, t.here, chain_next w b p (b + p) (omega arith));
-    filled = λ k i a c. pick k i a c (ℕ_discrete k at);
-  }
+  more m out b p at step v h t g e =
+      let here : at + step ≡ chain w b (p + 1) = omega (arith, t.here, chain_next w b p (b + p) (omega arith)) in
+      record { long = length-set out at v ∙ t.long; here = here; low = low m b (p + 1) here; filled = λ k i a c. pick k i a c (ℕ_discrete k at) }
     where
       pick : (k : ℕ) → k < length l → others w k ≤ b → (b ≤ others w k → mine w k < p + 1) → Dec (k ≡ at) → get_or (set out at v) k (pos 0) ≡ moved_at w s l k
       pick k i a c (yes z) = rw z (get_or-set_same out at v (pos 0) (omega (arith, t.long)) ∙ e ∙ ap (moved_at w s l) (sym t.here))
@@ -59,15 +56,18 @@ module _ (w : Variable) (s : ℤ) (l : List ℤ) where
   ahead b p k h i = omega (arith, chain-rises w b p (others w k) (mine w k) h i, chain-powers w k)
 
   -- a chain has left the group, and the loop goes on to the next chain
-  next-chain : (out : List ℤ) (b p at start step : ℕ) → length l ≤ at → Stands w s l out b p at → start ≡ chain w b 0 → step ≡ gap (own w Second First) b → Stands w s l out (b + 1) 0 (start + step)
+  next-chain : Movable w s l → (out : List ℤ) (b p at start step : ℕ) → length l ≤ at → Stands w s l out b p at → start ≡ chain w b 0 → step ≡ gap (own w Second First) b → Stands w s l out (b + 1) 0 (start + step)
   unfolding Filled
-  next-chain out b p at start step h t e g = record {
-    long = t.long;
-    here = omega (arith, chain-beside w b);
-    filled = λ k i a c.
-        let low : others w k < b + 1 = N.lt_of_not-le (λ d. omega (arith, c d)) in
-        t.filled k i (omega arith) (λ d. N.lt_of_not-le (λ y. omega (arith, ahead b p k d y, t.here)));
-  }
+  next-chain m out b p at start step h t e g =
+      let here : start + step ≡ chain w (b + 1) 0 = omega (arith, chain-beside w b) in
+      record {
+        long = t.long;
+        here = here;
+        low = low m (b + 1) 0 here;
+        filled = λ k i a c.
+            let beside : others w k < b + 1 = N.lt_of_not-le (λ d. omega (arith, c d)) in
+            t.filled k i (omega arith) (λ d. N.lt_of_not-le (λ y. omega (arith, ahead b p k d y, t.here)));
+      }
 
   -- the first place of a chain is past the group
   full : (out : List ℤ) (b at : ℕ) → length l ≤ at → Stands w s l out b 0 at → out ≡ moved w s l
@@ -87,6 +87,7 @@ unfolding below
 loop-start-init c = record {
   long = c.requires.same_length;
   here = by c.args.which;
+  low = low c.args.which (shift_in c.args.rows.now.numbers) c.args.from.now c.requires.movable 0 0 (by c.args.which);
   filled = none c.args.which (shift_in c.args.rows.now.numbers) c.args.from.now c.args.out.now;
 }
   where
@@ -94,25 +95,10 @@ loop-start-init c = record {
     by First = refl
     by Second = refl
 
-pub loop-at-init : goal.loop-at-init
-loop-at-init c = c.loop-start.invariant
-
-pub bounds-out-at : goal.bounds-out-at
-bounds-out-at c = omega (arith, c.loop-at.invariant.long, c.loop-at-test.true)
-
-pub overflow_add-beside : goal.overflow_add-beside
-overflow_add-beside c = omega (arith, degree c.args.which (shift_in c.args.rows.now.numbers) c.args.from.now c.loop-at.invariant c.loop-at-test.true c.requires.movable)
-
-pub gap-at-requires : goal.gap-at-requires
-gap-at-requires c = omega (arith, degree c.args.which (shift_in c.args.rows.now.numbers) c.args.from.now c.loop-at.invariant c.loop-at-test.true c.requires.movable)
-
 pub overflow_add-at : goal.overflow_add-at
 overflow_add-at c =
     let near = gap-near c.args.which (c.loop-start.beside + c.loop-at.p) c.gap-at.ensures in
-    omega (arith, near.1, degree c.args.which (shift_in c.args.rows.now.numbers) c.args.from.now c.loop-at.invariant c.loop-at-test.true c.requires.movable, c.loop-at-test.true, c.requires.movable.few)
-
-pub overflow_add-p : goal.overflow_add-p
-overflow_add-p c = omega (arith, degree c.args.which (shift_in c.args.rows.now.numbers) c.args.from.now c.loop-at.invariant c.loop-at-test.true c.requires.movable)
+    omega (arith, near.1, c.loop-at.invariant.low c.loop-at-test.true, c.loop-at-test.true, c.requires.movable.few)
 
 pub loop-at-smaller : goal.loop-at-smaller
 loop-at-smaller c =
@@ -122,19 +108,13 @@ loop-at-smaller c =
 pub loop-at-preserved : goal.loop-at-preserved
 loop-at-preserved c =
     let f : SFits w64 c.moved_number-x.result = search rules in
-    more c.args.which (shift_in c.args.rows.now.numbers) c.args.from.now c.loop-at.out c.loop-start.beside c.loop-at.p c.loop-at.at c.gap-at.result _ c.loop-at-test.true c.loop-at.invariant c.gap-at.ensures
+    more c.args.which (shift_in c.args.rows.now.numbers) c.args.from.now c.requires.movable c.loop-at.out c.loop-start.beside c.loop-at.p c.loop-at.at c.gap-at.result _ c.loop-at-test.true c.loop-at.invariant c.gap-at.ensures
     (to_z-of_z {w = w64} f ∙ c.moved_number-x.ensures ∙ number-there c.args.which (shift_in c.args.rows.now.numbers) c.args.from.now c.loop-start.beside c.loop-at.p)
-
-pub gap-start-requires : goal.gap-start-requires
-gap-start-requires c = omega (arith, degree c.args.which (shift_in c.args.rows.now.numbers) c.args.from.now c.loop-start.invariant c.loop-start-test.true c.requires.movable)
 
 pub overflow_add-start : goal.overflow_add-start
 overflow_add-start c =
     let near = gap-near (own c.args.which Second First) c.loop-start.beside (gap_is c.args.which c.loop-start.beside c.gap-start.ensures c.other.ensures) in
-    omega (arith, near.1, degree c.args.which (shift_in c.args.rows.now.numbers) c.args.from.now c.loop-start.invariant c.loop-start-test.true c.requires.movable, c.loop-start-test.true, c.requires.movable.few)
-
-pub overflow_add-beside-in-loop-start : goal.overflow_add-beside-in-loop-start
-overflow_add-beside-in-loop-start c = omega (arith, degree c.args.which (shift_in c.args.rows.now.numbers) c.args.from.now c.loop-start.invariant c.loop-start-test.true c.requires.movable)
+    omega (arith, near.1, c.loop-start.invariant.low c.loop-start-test.true, c.loop-start-test.true, c.requires.movable.few)
 
 pub loop-start-smaller : goal.loop-start-smaller
 loop-start-smaller c =
@@ -143,7 +123,7 @@ loop-start-smaller c =
 
 pub loop-start-preserved : goal.loop-start-preserved
 loop-start-preserved c =
-    next-chain c.args.which (shift_in c.args.rows.now.numbers) c.args.from.now c.loop-at.out c.loop-start.beside c.loop-at.p c.loop-at.at c.loop-start.start c.gap-start.result c.loop-at-test.false c.loop-at.invariant c.loop-start.invariant.here
+    next-chain c.args.which (shift_in c.args.rows.now.numbers) c.args.from.now c.requires.movable c.loop-at.out c.loop-start.beside c.loop-at.p c.loop-at.at c.loop-start.start c.gap-start.result c.loop-at-test.false c.loop-at.invariant c.loop-start.invariant.here
     (gap_is c.args.which c.loop-start.beside c.gap-start.ensures c.other.ensures)
 
 pub returns : goal.returns

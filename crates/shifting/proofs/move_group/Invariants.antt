@@ -1,9 +1,9 @@
--- The invariant of both loops is `Stands`: `at` is the place of the power p beside the power b of the other variable, and the places passed hold the moved
--- numbers. They are those of the chains beside smaller powers, and of smaller powers on the same chain; where a chain leaves the group, and at last where
+-- The invariant of both loops is `Stands`: `at` is the place of the power p beside the power b of the other variable, of a low degree where it is in the group,
+-- and the places passed hold the moved numbers. They are those of the chains beside smaller powers, and of smaller powers on the same chain; where a chain leaves the group, and at last where
 -- the first place of a chain does, no place is left.
 use mathlib.Core.Path.{◌≡◌}
 use mathlib.Core.List.{List}
-use Prim.Native.Nat.{ℕ, ◌-◌, ◌≤◌, ◌<◌}
+use Prim.Native.Nat.{ℕ, ◌+◌, ◌-◌, ◌≤◌, ◌<◌}
 use lib.IntN.{ℤ, pos}
 use lib.ListN.{length, get_or}
 use Rattle.polynomials.specs.Numbers.{ints}
@@ -33,6 +33,7 @@ module _ (w : Variable) (s : ℤ) (l : List ℤ) where
   pub record Stands (out : List ℤ) (b p at : ℕ) : Type 0 where
     pub long : length out ≡ length l
     pub here : at ≡ chain w b p
+    pub low : at < length l → b + p < 5
     pub filled : Filled out b p
 
 abbrev pub invariant-loop-at : goal.invariant-loop-at
