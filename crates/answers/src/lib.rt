@@ -24,7 +24,8 @@ pub const LONGEST: usize = LONGEST_NUMBER + LONGEST_VALUES + 1;
 // The number given back for a line that is no five numbers.
 const MALFORMED: u64 = 31;
 
-// What is known of the input from its bytes so far: the line that has not ended, and whether it has a byte.
+// What is known of the input from its bytes so far: the line that has not ended, and whether it has a byte. This is no Option, since `feed` and
+// `finish` take a reading with any line beside either answer.
 #[derive(Clone, Copy)]
 pub struct Reading {
     pub line: State,
@@ -139,21 +140,17 @@ fn take_line(
     requires { Taking table.now refused input.now from out.old at }
     ensures { Taken table.now reading input.now from out.old out.new at result }
 {
-    let part = step_line(reading.line, input, from);
-    let line = part.line;
-    let end = part.end;
+    let Part { line, end } = step_line(reading.line, input, from);
     if end >= input.len() {
-        let next = Reading { line, begun: true };
         return Fed {
-            reading: next,
+            reading: Reading { line, begun: true },
             taken: end,
             put: at,
         };
     }
     let put = put_line(table, refused, line.finish(), out, at);
-    let next = Reading::fresh();
     Fed {
-        reading: next,
+        reading: Reading::fresh(),
         taken: end + 1,
         put,
     }

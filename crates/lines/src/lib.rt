@@ -12,7 +12,8 @@ const ONE_DIGIT: u64 = 10 * NO_DIGIT;
 
 const FOUR_DIGITS: u64 = 10_000 * NO_DIGIT;
 
-// What is known of a line from the bytes so far.
+// What is known of a line from the bytes so far. Its fields are whole numbers of 64 bits, `minus` too: with a bool and narrow fields a line took an
+// eighth more instructions (docs/TRACE.md, 18.9). A line that is refused has five words and is no None, so that a step need not ask.
 #[derive(Clone, Copy)]
 pub struct State {
     // How many words have ended; five where no bytes that follow make it a line of five numbers.
@@ -99,12 +100,14 @@ impl State {
         self
     }
 
-    // One byte more.
+    // One byte more. Most are digits, which are tested first: as one `match` with the others they come last, 39 instructions a line more.
     pub fn step(self, byte: u8) -> State
         ensures { result ≡ stepped self byte }
     {
+        if byte.is_ascii_digit() {
+            return self.digit(byte as u64 - b'0' as u64);
+        }
         match byte {
-            b'0'..=b'9' => self.digit((byte - b'0') as u64),
             b' ' => self.ended(),
             b'-' => self.minus(),
             _ => self.refused(),

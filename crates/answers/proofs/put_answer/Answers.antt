@@ -32,10 +32,10 @@ returns c =
     record {
       place = omega arith;
       output =
-        written-sets values.new.out values.result (10 ∷ []) (omega arith)
-            ∙ ap₂ (λ o p. written o p (10 ∷ []))
-            (values.ensures.output ∙ ap₂ (λ o p. written o p W) (c.put_few-behind.ensures.output ∙ written-sets a.out.now a.at D (omega arith)) first ∙ written-append a.out.now a.at D W (omega arith))
-            place
-            ∙ written-append a.out.now a.at (D ++ W) (10 ∷ []) (omega arith);
+          written-sets values.new.out values.result (10 ∷ []) (omega arith)
+          ∙ ap₂ (λ o p. written o p (10 ∷ []))
+          (values.ensures.output ∙ ap₂ (λ o p. written o p W) (c.put_few-behind.ensures.output ∙ written-sets a.out.now a.at D (omega arith)) first ∙ written-append a.out.now a.at D W (omega arith))
+          place
+          ∙ written-append a.out.now a.at (D ++ W) (10 ∷ []) (omega arith);
       room = omega (arith, values.ensures.room);
     }

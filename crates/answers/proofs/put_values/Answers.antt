@@ -1,6 +1,5 @@
 use Rattle.std.proofs.Common.{◌≡◌, ◌∷◌, ◌+◌, pos, length, take, get_or, set, length-append, sym, ap, ap₂, ◌∙◌, rules, arith, w64}
 use mir.Val.{SFits, to_z, of_z}
-use Rattle.std.proofs.Math.ListN.{length-set}
 use Rattle.printing.specs.Spell.{spell, written}
 use Rattle.printing.proofs.Digits.{spell-fits}
 use Rattle.printing.proofs.Writing.{written-cons, written-append}
@@ -25,10 +24,10 @@ loop-value-preserved c =
       place = omega (arith, number.place, ap (λ z. length (spell z)) read, l.invariant.place);
       room = omega (arith, l.invariant.room);
       output =
-        number.output
-            ∙ ap (λ z. written (set l.out l.place 32) (l.place + 1) (spell z)) read
-            ∙ written-cons l.out l.place 32 (spell x) (omega (arith, l.invariant.place, l.invariant.room))
-            ∙ ap₂ (λ o p. written o p (32 ∷ spell x)) l.invariant.output l.invariant.place
-            ∙ written-append a.out.now a.at S (32 ∷ spell x) (omega (arith, length-append S (32 ∷ spell x), l.invariant.room))
-            ∙ ap (written a.out.now a.at) (sym more);
+          number.output
+          ∙ ap (λ z. written (set l.out l.place 32) (l.place + 1) (spell z)) read
+          ∙ written-cons l.out l.place 32 (spell x) (omega (arith, l.invariant.place, l.invariant.room))
+          ∙ ap₂ (λ o p. written o p (32 ∷ spell x)) l.invariant.output l.invariant.place
+          ∙ written-append a.out.now a.at S (32 ∷ spell x) (omega (arith, length-append S (32 ∷ spell x), l.invariant.room))
+          ∙ ap (written a.out.now a.at) (sym more);
     }
