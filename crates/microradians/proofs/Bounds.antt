@@ -1,17 +1,24 @@
 -- How large what is summed down is: no multiplication makes a number larger, so n numbers come to at most n times the largest.
 --   times-size              a product with a reading of at most a radian
 --   row-size, group-size    a row and a group, from a power on
+--   followable              so a group may be followed with the rounded product
 use mathlib.Core.List.{List}
-use Prim.Native.Nat.{ℕ, zero, suc, ◌-◌, ◌*◌, ◌≤◌}
+use mathlib.Core.Path.{subst}
+use Prim.Native.Nat.{ℕ, zero, suc, ◌+◌, ◌-◌, ◌*◌, ◌≤◌}
 use native.Mathlib.Nat as N
 use native.Mathlib.Omega.{arith}
 use lib.IntN.{ℤ, nat_abs, ◌*ℤ◌}
+use Rattle.std.specs.Prelude.{FitsSigned}
+use Rattle.std.specs.Int.{w64}
+use Rattle.whole.proofs.Machine.{nat_abs-sfits}
 use Rattle.whole.proofs.Magnitudes.{nat_abs-+, nat_abs-*}
 use Rattle.whole.proofs.Nearest.{nearest-size}
 use Rattle.polynomials.specs.Numbers.{ints}
 use Rattle.polynomials.specs.Order.{place}
 use Rattle.polynomials.specs.Group.{number}
 use Rattle.polynomials.specs.Downward.{down, row_downward}
+use Rattle.polynomials.specs.Ready.{Formed, Followable}
+use Rattle.polynomials.proofs.Downward.{down-more}
 use Rattle.cumulus_page.specs.Model.{microradians}
 use Rattle.microradians.specs.Fixed.{◌⊛◌}
 use Rattle.microradians.specs.Ready.{largest, most, Placed, Near}
@@ -44,3 +51,19 @@ module _ {l : List ℤ} {degree : ℕ} (placed : Placed l degree) (x y : ℤ) (h
   pub group-size : (k q : ℕ) → k ≤ degree → nat_abs (down ints ◌⊛◌ (row_downward ints ◌⊛◌ degree (number ints l) x) y k q) ≤ most
   group-size k q h =
       five (row_downward ints ◌⊛◌ degree (number ints l) x) y (5 * largest) (λ q. row-five q (degree - q) 0 (omega arith)) hy k q (omega (arith, placed.low))
+
+  -- what is taken so far from the power p + 1 on, and with the number before it
+  formed : (g : ℕ → ℤ) (z : ℤ) (n : ℕ) → Near z → ((k p : ℕ) → k ≤ n → nat_abs (down ints ◌⊛◌ g z k p) ≤ most) → Formed (λ a r. (nat_abs a ≤ most) × Near r) ◌⊛◌ g z n
+  formed g z n near small =
+      record {
+        multiplied = λ p h. (small (n - (p + 1)) (p + 1) (omega arith), near);
+        added = λ p h. let s = small (n - p) p (omega arith) in subst (FitsSigned w64) (down-more ints ◌⊛◌ g z n p h) (nat_abs-sfits _ (omega (arith, s)));
+      }
+
+  pub followable : Followable (λ a r. (nat_abs a ≤ most) × Near r) ◌⊛◌ l degree x y
+  followable =
+      record {
+        low = placed.low;
+        each = λ q h. formed (λ p. number ints l p q) x (degree - q) hx (λ k p b. row-size q k p (omega arith));
+        all = formed (row_downward ints ◌⊛◌ degree (number ints l) x) y degree hy group-size;
+      }

@@ -4,17 +4,14 @@
 mod numbers;
 
 ghost use Rattle.std.specs.Prelude.{◌≡◌, ◌<◌, ◌≤◌, nat_abs, length};
-ghost use Rattle.polynomials.specs.Numbers.{ints};
 ghost use Rattle.polynomials.specs.Sum.{listed};
-ghost use Rattle.polynomials.specs.Group.{number};
-ghost use Rattle.polynomials.specs.Downward.{row_downward, downward};
 ghost use Rattle.layout.specs.Shape.{cumulus};
 ghost use Rattle.layout.specs.Blocks.{piece as piece_of};
 ghost use Rattle.layout.specs.Reading.{readings};
 ghost use Rattle.cumulus_page.specs.Model.{coefficient_at};
 ghost use Rattle.microradians.specs.Fixed.{◌⊛◌};
 ghost use Rattle.microradians.specs.Answer.{answer_in, fine_number, fine_output};
-ghost use Rattle.microradians.specs.Ready.{most, Placed, Near, AllNear};
+ghost use Rattle.microradians.specs.Ready.{most, Near, AllNear};
 
 use cumulus::PUBLISHED;
 use layout::Model;
@@ -22,7 +19,7 @@ use layout::cumulus_one::{BLOCKS, LIMITS, PITCH_DEGREE, SIDE_DEGREE, VARIABLES};
 use layout::refusals::{DONE, WRONG_OUTPUT};
 use limits::Limits;
 use numbers::{GROUPS, numbers_of};
-use polynomials::number_at;
+use polynomials::{Product, group_at};
 
 // Microradians in a radian, and in a milliradian.
 const RADIAN: i64 = 1_000_000;
@@ -50,41 +47,18 @@ const FINE_ENVELOPE: [i64; LIMITS] = [
     MILLIRADIAN * PUBLISHED[11],
 ];
 
-// A number times a reading, to the nearest whole number, a half away from zero.
-fn times(a: i64, r: i64) -> i64
-    requires { (nat_abs a ≤ most) × Near r }
-    ensures { result ≡ a ⊛ r }
-{
-    let product = a * r;
-    whole::nearest_away(product, RADIAN)
-}
+// The product in fixed point: to the nearest whole number, a half away from zero.
+struct Rounded;
 
-// The numbers beside the power q of the second variable, from the highest power of the first down.
-fn row_at(group: &[i64], degree: usize, q: usize, x: i64) -> i64
-    requires { Placed group.now degree × ((q ≤ degree) × Near x) }
-    ensures { result ≡ row_downward ints ◌⊛◌ degree (number ints group.now) x q }
-{
-    let mut p = degree - q;
-    let mut row = number_at(group, p, q);
-    while p > 0 {
-        p -= 1;
-        row = times(row, x) + number_at(group, p, q);
-    }
-    row
-}
+impl Product for Rounded {
+    ghost times = { ◌⊛◌ };
 
-// The rows of a group, from the highest power of the second variable down.
-fn group_at(group: &[i64], degree: usize, x: i64, y: i64) -> i64
-    requires { Placed group.now degree × (Near x × Near y) }
-    ensures { result ≡ downward ints ◌⊛◌ degree (number ints group.now) x y }
-{
-    let mut q = degree;
-    let mut sum = row_at(group, degree, q, x);
-    while q > 0 {
-        q -= 1;
-        sum = times(sum, y) + row_at(group, degree, q, x);
+    ghost can_times = { λ a r. (nat_abs a ≤ most) × Near r };
+
+    fn times(a: i64, r: i64) -> i64 {
+        let product = a * r;
+        whole::nearest_away(product, RADIAN)
     }
-    sum
 }
 
 // A coefficient, by its block, in the low piece (0) or the high one.
@@ -96,9 +70,9 @@ fn coefficient_at(block: usize, piece: usize, state: [i64; VARIABLES]) -> i64
     let pitch = numbers_of(first + piece);
     let aileron = numbers_of(first + XI);
     let rudder = numbers_of(first + ZETA);
-    group_at(&pitch, PITCH_DEGREE, state[0], state[3])
-        + (group_at(&aileron, SIDE_DEGREE, state[1], state[2])
-            + group_at(&rudder, SIDE_DEGREE, state[1], state[4]))
+    group_at::<Rounded>(&pitch, PITCH_DEGREE, state[0], state[3])
+        + (group_at::<Rounded>(&aileron, SIDE_DEGREE, state[1], state[2])
+            + group_at::<Rounded>(&rudder, SIDE_DEGREE, state[1], state[4]))
 }
 
 // Every coefficient at the state, in the low piece (0) or the high one.
@@ -106,11 +80,8 @@ fn write_answers(piece: usize, state: [i64; VARIABLES], out: &mut [i64])
     requires { (piece < 2) × (AllNear (readings state) × (length out.old ≡ cumulus.blocks)) }
     ensures { out.new ≡ listed cumulus.blocks (λ b. answer_in (piece_of piece) (coefficient_at b) (readings state)) }
 {
-    let mut block: usize = 0;
-    while block < BLOCKS {
-        let x = coefficient_at(block, piece, state);
-        out[block] = x;
-        block += 1;
+    for (block, x) in out.iter_mut().enumerate() {
+        *x = coefficient_at(block, piece, state);
     }
 }
 

@@ -15,13 +15,16 @@ use lib.IntN.{ℤ}
 use lib.ListN.{length, take}
 use contract.Lifetimes.{Lfts}
 use denote.Exit.{Exit, unchanged, leaves, Last}
-use denote.RattleType.{Denots}
+use denote.Param.Laws.{Laws}
+use denote.RattleType.{RattleType, Denots}
 use denote.Signature.{Slot, types_at}
 use denote.Triple.Entry.{Args, Res}
 use denote.Triple.End.{Kepts, Fins}
 use denote.Triple.Clauses.{Ended, Lasts, AtExit, at_exit}
 use Rattle.std.proofs.Props.{props}
 use Rattle.polynomials.specs.Binomial.{multiplied_rows, shift_in}
+use mir.Syntax.{Dict}
+use Rattle.polynomials.specs.declared.Product as product
 use Rattle.polynomials.specs.Limits.{cap}
 use Rattle.polynomials.specs.Ready.{Reached}
 use Rattle.polynomials.specs.declared.Reach.{Reach}
@@ -130,6 +133,10 @@ reach-of-tight κs a o p = tight o p (same-reach o.allowed p.allowed, tt)
 
 pub number-at-tight : Tight polynomials.number_at.ended polynomials'.number_at.Reads.Post
 number-at-tight κs a o p = tight o p (search same)
+
+-- over whichever product
+pub group-at-tight : (P : RattleType) (L : Laws P) (G : product.Ghosts P.Denot) (D : Dict) → Tight (polynomials.group_at.ended P G D) (polynomials'.group_at.Reads.Post P L G D)
+group-at-tight P L G D κs a o p = tight o p (search same)
 
 pub value-at-tight : Tight polynomials.value_at.ended polynomials'.value_at.Reads.Post
 value-at-tight κs a o p = tight o p (search same)

@@ -21,5 +21,5 @@ loop-k-preserved c =
     let r = c.read_cleared in
     let there : l.k < length c.args.numbers.now = omega (arith, c.loop-k-test.true, l.invariant.count) in
     let state-is = state-held S c.args.states.now (length c.args.numbers.now) l.k there c.requires.given (few-variables c.args.model) c.variables-variables.ensures c.held-state.ensures in
-    one_more _ _ _ _ l.numbers l.out l.k there l.invariant c.blocks-blocks.ensures (r.ensures.number ∙ ap (λ x. read_number S t x (zeros S)) state-is)
+    one_more _ _ _ _ l.numbers l.out l.k there l.invariant c.blocks-blocks.ensures (c.given_back.ensures ∙ r.ensures.number ∙ ap (λ x. read_number S t x (zeros S)) state-is)
     (r.ensures.output ∙ ap (λ x. read_output S t x (zeros S)) state-is) r.auto.out
