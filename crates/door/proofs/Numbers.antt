@@ -12,6 +12,7 @@ use mathlib.Core.List.{List, [], ◌∷◌, ◌++◌}
 use Prim.Native.Nat.{ℕ, ◌-◌, ◌≤◌, ◌<◌}
 use native.Mathlib.Decide.{dec_lt}
 use native.Mathlib.Omega.{arith}
+use Rattle.std.proofs.Math.Bool.{and-false}
 use borrow.Author.Tests.{eq-eqb, ne_eqb, le-leb, lt-leb, lt-ltb, le-ltb}
 use lib.Dec.{eqb, leb, ltb}
 use lib.IntN.{ℤ}
@@ -89,10 +90,6 @@ module _ (s : ℕ → Result ℤ Unread) where
     number-whole within = first_past refused_not_finite cumulus.variables finite (outsides cumulus cumulus.variables s) ∙ first-none refused_outside cumulus.variables within
 
   -- ---- the reading handed back
-  shut : (b : Bool) → (b && false) ≡ false
-  shut true = refl
-  shut false = refl
-
   with-test : (n : ℕ) {b : Bool} → for_outside cumulus n ≡ b → reading_for cumulus s n ≡ cond b (handed_back (s (n - outside cumulus 0))) positive_zero
   with-test n e = ap (λ b. cond b (handed_back (s (n - outside cumulus 0))) positive_zero) e
 
@@ -100,7 +97,7 @@ module _ (s : ℕ → Result ℤ Unread) where
   back_below n h = with-test n (ap (λ b. b && ltb n (outside cumulus cumulus.variables)) (lt-leb (outside cumulus 0) n h))
 
   pub back_above : (n : ℕ) → outside cumulus cumulus.variables ≤ n → reading_for cumulus s n ≡ positive_zero
-  back_above n h = with-test n (ap (λ b. leb (outside cumulus 0) n && b) (le-ltb n (outside cumulus cumulus.variables) h) ∙ shut (leb (outside cumulus 0) n))
+  back_above n h = with-test n (ap (λ b. leb (outside cumulus 0) n && b) (le-ltb n (outside cumulus cumulus.variables) h) ∙ and-false (leb (outside cumulus 0) n))
 
   pub back-given : (k : ℕ) → k < cumulus.variables → reading_for cumulus s (outside cumulus k) ≡ handed_back (s k)
   back-given k h =

@@ -1,4 +1,4 @@
--- What the step of one reading gives, case by case.
+-- What the step of one reading gives, case by case, and what a refusal gives.
 use Rattle.std.specs.Prelude.{Bool, true, false, List, ℕ, ◌+◌, ◌<◌, ℤ, pos, get_or, Float, Result, Ok, Err}
 use Rattle.std.specs.Float.{fin}
 use Rattle.layout.specs.Shape.{Shape, cumulus}

@@ -1,4 +1,5 @@
 -- A comparison of floats as one of exact fractions, for floats that are finite and above zero, `positive` in the kit's model.
+--   same_test  two tests of which each holds with the other
 --   lt-value   with a float of the value a / c
 --   halves     n halves, as a float
 use Rattle.std.proofs.Common.{◌≡◌, ℕ, ◌+◌, ◌*◌, ◌^◌, ◌<◌, Bool, true, false, T, ltb, pos, negsuc, sym, refl, ap, ◌∙◌, subst, ap₂, lt_of_lt_of_le, mul_assoc, lt_of_mul-lt-mul_right, mul-lt-mul_of_pos_right, mul-one, mul_right_comm, arith, lit<, lit≤, ltb→lt, lt→ltb, pow_mono, shl_lt}
@@ -8,7 +9,7 @@ use lib.Ieee.Back.{round_whole}
 use lib.Ieee.Positive.{num, den, den_pos, positive, value→cross, mul_at, positive_of_value}
 
 -- ════ by crossing the fractions
-same_test : (s t : Bool) → (T s → T t) → (T t → T s) → s ≡ t
+pub same_test : (s t : Bool) → (T s → T t) → (T t → T s) → s ≡ t
 same_test true true f g = refl
 same_test true false f g = absurd (f tt)
 same_test false true f g = absurd (g tt)

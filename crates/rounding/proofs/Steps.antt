@@ -5,6 +5,8 @@
 --   step-not-finite, step-below, step-above, step-inside   each of the four places
 --   Stepped, stepped                                       the places behind each of the three answers
 use Rattle.std.proofs.Common.{◌≡◌, Result, Ok, Err, Bool, true, false, cond, ◌&&◌, T, ◌⊎◌, ℤ, pos, ◌≤ℤ◌, ◌<ℤ◌, sym, refl, ap, subst, inl, inr, true≢false}
+use Rattle.std.proofs.Math.Bool.{and-false}
+use lib.Ieee.Bits.{is_true}
 use lib.Signed.{le_z, le_z_yes, clash_ℤ}
 use lib.Ieee.{Float, nan, inf, fin}
 use lib.Ieee.Scale.{finite}
@@ -14,17 +16,9 @@ use Rattle.rounding.specs.Reading.{whole_of, step_of}
 use Rattle.rounding.specs.declared.Unread.{Unread}
 use Rattle.rounding.specs.declared.Unread.TheVariants.{NotFinite, Outside}
 
-passes : (t : Bool) → T t → t ≡ true
-passes true h = refl
-passes false h = absurd h
-
 fails : (t : Bool) → (T t → ⊥) → t ≡ false
 fails true h = absurd (h tt)
 fails false h = refl
-
-neither : (s : Bool) → (s && false) ≡ false
-neither true = refl
-neither false = refl
 
 pub not-le : {a b : ℤ} → a <ℤ b → le_z b a ≡ false
 not-le {a} {b} h = fails (le_z b a) (λ t. clash_ℤ h (le_z_yes t))
@@ -63,10 +57,10 @@ module _ (x : Float) (lowest highest : ℤ) (f : T (finite x)) where
   step-below h = rw (step-placed x lowest highest f, not-le h)
 
   pub step-above : highest <ℤ whole_of x → step_of x lowest highest ≡ Err (Outside x)
-  step-above h = rw (step-placed x lowest highest f, not-le h, neither)
+  step-above h = rw (step-placed x lowest highest f, not-le h, and-false)
 
   pub step-inside : lowest ≤ℤ whole_of x → whole_of x ≤ℤ highest → step_of x lowest highest ≡ Ok (whole_of x)
-  step-inside h g = rw (step-placed x lowest highest f, passes (le_z lowest (whole_of x)) h.le, passes (le_z (whole_of x) highest) g.le)
+  step-inside h g = rw (step-placed x lowest highest f, is_true (le_z lowest (whole_of x)) h.le, is_true (le_z (whole_of x) highest) g.le)
 
 -- ════ what the step tells
 -- the reading's place, for each answer

@@ -20,9 +20,9 @@ use Rattle.whole.proofs.Machine.{le_z-no}
 use Rattle.whole.proofs.Down.{down_is, down-most}
 use Rattle.rounding.specs.Value.{numerator, denominator}
 use Rattle.rounding.specs.Reading.{whole_of}
+use Rattle.rounding.proofs.Comparisons.{same_test}
 use Rattle.rounding.proofs.Nearest.{denominator-pos, reading-nearest}
 use Rattle.thousandths.specs.Thousandths.{at_most_thousandths}
-use Rattle.thousandths.proofs.Up.{same_test}
 
 -- ════ of any fraction z / m, and a whole number q that is within a half of it
 positive : (m : ℕ) → 0 < m → pos 0 ≤ℤ pos m

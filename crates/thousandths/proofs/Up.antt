@@ -22,6 +22,7 @@ use Rattle.whole.proofs.Linear.{zarith}
 use Rattle.whole.proofs.Order.{le_in, ≤ℤ-mul}
 use Rattle.whole.proofs.Down.{down_is, down-most, down-same}
 use Rattle.rounding.specs.Value.{numerator, denominator}
+use Rattle.rounding.proofs.Comparisons.{same_test}
 use Rattle.rounding.proofs.Nearest.{denominator-pos}
 use Rattle.thousandths.specs.Thousandths.{at_most_thousandths}
 use Rattle.thousandths.specs.Steps.{IsParts, thousandths_up}
@@ -86,12 +87,6 @@ module _ (x : Float) (d s : ℕ) (v : IsParts x d s) where
       (neg-*ℤ (pos (thousand * num x)) (pos (2 ^ s)) ∙ ap (λ k. neg_ℤ (pos k)) same-value ∙ sym (neg-*ℤ (pos (thousand * d)) (pos (denominator x))))
 
 -- ════ against k: with m for the denominator and z for 1000 times the numerator
-pub same_test : (s t : Bool) → (T s → T t) → (T t → T s) → s ≡ t
-same_test true true f g = refl
-same_test true false f g = absurd (f tt)
-same_test false true f g = absurd (g tt)
-same_test false false f g = refl
-
 module _ (m : ℕ) (h : 0 < m) (z k : ℤ) where
   abbrev q : ℤ
   q = rounded_down m (neg_ℤ z)
