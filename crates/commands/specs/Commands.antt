@@ -1,12 +1,11 @@
 -- What a line of a script asks for.
-use Rattle.std.specs.Prelude.{Option, Some, None, is_some, Bool, true, false, cond, ◌&&◌, List, [], ◌∷◌, ℕ, eqb, drop, find}
+use Rattle.std.specs.Prelude.{Option, Some, None, is_some, Bool, true, false, cond, ◌&&◌, List, [], ◌∷◌, ℕ, eqb, drop, find, codes}
 use Rattle.std.specs.Option.{option_map}
 use Rattle.std.specs.Str.{bytes_eq}
 use Rattle.words.specs.Words.{words, word_at}
 use Rattle.numbers.specs.Numbers.{magnitude, natural_at, signed_at, bits_at}
 use Rattle.numbers.specs.declared.Kind.{Kind}
 use Rattle.numbers.specs.declared.Kind.TheVariants.{Natural, Signed, Bits}
-use Rattle.words.specs.Text.{text}
 use Rattle.layout.specs.declared.Model.{Model}
 use Rattle.layout.specs.declared.Model.TheVariants.{Cumulus, Gtm}
 use Rattle.commands.specs.declared.Name.{Name}
@@ -21,21 +20,21 @@ use Rattle.commands.specs.declared.Command.TheVariants as C
 -- ════ the commands: the first word of a line, its name, and what the words behind it are
 unfoldable pub commands : List (List ℕ × Name × List Kind)
 commands =
-    (text "publish", N.Publish, Natural ∷ [])
-    ∷ (text "move", N.Move, Natural ∷ Natural ∷ Signed ∷ Natural ∷ [])
-    ∷ (text "read", N.Read, Natural ∷ Natural ∷ Signed ∷ Signed ∷ Signed ∷ Signed ∷ Signed ∷ [])
-    ∷ (text "floats", N.Floats, Natural ∷ Bits ∷ Bits ∷ Bits ∷ Bits ∷ Bits ∷ [])
-    ∷ (text "microradians", N.Microradians, Natural ∷ Signed ∷ Signed ∷ Signed ∷ Signed ∷ Signed ∷ [])
-    ∷ (text "many", N.Many, Natural ∷ Natural ∷ Natural ∷ Natural ∷ [])
-    ∷ (text "gtm_publish", N.GtmPublish, Natural ∷ [])
-    ∷ (text "gtm_move", N.GtmMove, Natural ∷ Natural ∷ Signed ∷ Natural ∷ [])
-    ∷ (text "gtm_read", N.GtmRead, Natural ∷ Natural ∷ Signed ∷ Signed ∷ [])
-    ∷ (text "length", N.Length, Natural ∷ Natural ∷ [])
-    ∷ (text "set", N.Set, Natural ∷ Natural ∷ Signed ∷ [])
-    ∷ (text "fill", N.Fill, Natural ∷ Natural ∷ Natural ∷ Natural ∷ Natural ∷ [])
-    ∷ (text "copy", N.Copy, Natural ∷ Natural ∷ [])
-    ∷ (text "show", N.Show, Natural ∷ Natural ∷ Natural ∷ [])
-    ∷ (text "sum", N.Sum, Natural ∷ [])
+    (codes "publish", N.Publish, Natural ∷ [])
+    ∷ (codes "move", N.Move, Natural ∷ Natural ∷ Signed ∷ Natural ∷ [])
+    ∷ (codes "read", N.Read, Natural ∷ Natural ∷ Signed ∷ Signed ∷ Signed ∷ Signed ∷ Signed ∷ [])
+    ∷ (codes "floats", N.Floats, Natural ∷ Bits ∷ Bits ∷ Bits ∷ Bits ∷ Bits ∷ [])
+    ∷ (codes "microradians", N.Microradians, Natural ∷ Signed ∷ Signed ∷ Signed ∷ Signed ∷ Signed ∷ [])
+    ∷ (codes "many", N.Many, Natural ∷ Natural ∷ Natural ∷ Natural ∷ [])
+    ∷ (codes "gtm_publish", N.GtmPublish, Natural ∷ [])
+    ∷ (codes "gtm_move", N.GtmMove, Natural ∷ Natural ∷ Signed ∷ Natural ∷ [])
+    ∷ (codes "gtm_read", N.GtmRead, Natural ∷ Natural ∷ Signed ∷ Signed ∷ [])
+    ∷ (codes "length", N.Length, Natural ∷ Natural ∷ [])
+    ∷ (codes "set", N.Set, Natural ∷ Natural ∷ Signed ∷ [])
+    ∷ (codes "fill", N.Fill, Natural ∷ Natural ∷ Natural ∷ Natural ∷ Natural ∷ [])
+    ∷ (codes "copy", N.Copy, Natural ∷ Natural ∷ [])
+    ∷ (codes "show", N.Show, Natural ∷ Natural ∷ Natural ∷ [])
+    ∷ (codes "sum", N.Sum, Natural ∷ [])
     ∷ []
 
 -- the name that a word is, and what the words behind it are

@@ -5,7 +5,7 @@ use Rattle.std.specs.Result.{result_ok}
 use Rattle.std.specs.Cmp.Lexicographic.{pointwise}
 use Rattle.std.proofs.Math.IntN.{+ℤ_idl}
 use borrow.Author.Tests.{leb-true, leb-false, le-leb, lt-leb}
-use Rattle.numbers.specs.Numbers.{kept, value_on, digits, largest, least, has_minus, magnitude, signed, signed_of}
+use Rattle.numbers.specs.Numbers.{kept, value_on, digits, largest, least, has_minus, signed, signed_of}
 
 narrower : (base low high : ℕ) → low ≤ high → (w : List ℕ) → digits base low w ≡ kept (λ n. leb n low) (digits base high w)
 narrower base low high h [] = refl
@@ -67,7 +67,6 @@ sign (b ∷ bs) t e = pick (eqb b 45) e
 
 module _ (w : List ℕ) (o : Option ℕ) (r : Option ℤ) where
   pub negative : pointwise eqb (take 1 w) (45 ∷ []) ≡ true → o ≡ digits 10 largest (drop 1 w) → MatchOption o (r ≡ None) (λ n. SomeIff r (FitsSigned w64 (pos 0 -ℤ pos n)) (pos 0 -ℤ pos n)) → r ≡ signed_of w
-  unfolding magnitude
   negative e d h =
       minus o r h
       ∙ ap (λ o. option_map (signed true) (kept (λ n. leb n least) o)) d
@@ -75,7 +74,6 @@ module _ (w : List ℕ) (o : Option ℕ) (r : Option ℤ) where
       ∙ sym (ap (λ t. option_map (signed t) (cond t (digits 10 least (drop 1 w)) (digits 10 (least - 1) w))) (sign w true e))
 
   pub positive : (E : Type 0) → pointwise eqb (take 1 w) (45 ∷ []) ≡ false → o ≡ digits 10 largest w → MatchOption o (r ≡ None) (λ n. (whole : Result ℤ E) × (r ≡ result_ok whole) × OkIff whole (FitsSigned w64 (pos n)) (pos n)) → r ≡ signed_of w
-  unfolding magnitude
   positive E e d h =
       plain E o r h
       ∙ ap (λ o. option_map (signed false) (kept (λ n. leb n (least - 1)) o)) d

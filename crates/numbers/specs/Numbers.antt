@@ -42,7 +42,7 @@ abbrev pub signless : List ℕ → Option ℕ
 signless w = cond (has_minus w) (digits 10 least (drop 1 w)) (digits 10 (least - 1) w)
 
 -- decimal from 0 to 2^64 - 1; decimal from -2^63 to 2^63 - 1, with a minus in front where it is negative; hexadecimal
-unfoldable pub magnitude : Kind → List ℕ → Option ℕ
+abbrev pub magnitude : Kind → List ℕ → Option ℕ
 magnitude Natural w = digits 10 largest w
 magnitude Signed w = signless w
 magnitude Bits w = digits 16 largest w

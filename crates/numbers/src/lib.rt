@@ -54,7 +54,6 @@ fn signed(word: &[u8]) -> Option<i64>
 }
 
 // Whether a word says a number of a kind.
-#[tactic(auto, unfolding(crate::specs::Numbers::magnitude))]
 pub fn is_number(line: &[u8], k: usize, kind: Kind) -> bool
     ensures { result ≡ is_number line.now k kind }
 {
@@ -68,8 +67,8 @@ pub fn is_number(line: &[u8], k: usize, kind: Kind) -> bool
     }
 }
 
-// The number of a word; 0 where there is none or it says none of its kind.
-#[tactic(auto, unfolding(crate::specs::Numbers::magnitude))]
+// The number of a word; 0 where there is none or it says none of its kind. The base stays in the names: as a parameter of one
+// function it would stand at each call.
 pub fn natural_at(line: &[u8], k: usize) -> u64
     ensures { result ≡ natural_at line.now k }
 {
@@ -78,7 +77,6 @@ pub fn natural_at(line: &[u8], k: usize) -> u64
         .unwrap_or(0)
 }
 
-#[tactic(auto, unfolding(crate::specs::Numbers::magnitude))]
 pub fn bits_at(line: &[u8], k: usize) -> u64
     ensures { result ≡ bits_at line.now k }
 {
