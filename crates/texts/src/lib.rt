@@ -2,12 +2,13 @@
 // cut off.
 #![tactic(auto)]
 
-ghost use Rattle.std.specs.Prelude.{◌≡◌, ◌≤◌};
+ghost use Rattle.std.specs.Prelude.{◌≡◌, ◌≤◌, ◌+◌, ◌++◌, List, [], ℕ, length, min, take};
 ghost use Rattle.texts.specs.Held.{held_after, line_after};
 ghost use Rattle.texts.specs.Room.{answers_room};
 
 use std::fmt;
 use std::fmt::{Display, Write};
+use std::marker::Model;
 
 // The room for answers.
 pub const OUT: usize = 65536;
@@ -62,34 +63,51 @@ impl Line {
 pub struct Answers {
     bytes: [u8; OUT],
     end: usize,
-    ghost fits: { end ≤ answers_room },
+}
+
+// The bytes that are not written out.
+impl Model for Answers {
+    ghost Value = { List ℕ };
+
+    ghost view = { λ a. take a.end a.bytes };
+
+    ghost invariant = { λ a. a.end ≤ answers_room };
 }
 
 impl Answers {
     // Answers that begin at a place; one behind the room is its end.
-    pub fn at(place: usize) -> Answers {
+    pub fn at(place: usize) -> Answers
+        ensures { length result ≡ min place answers_room }
+    {
         Answers {
             bytes: [0; OUT],
             end: place.min(OUT),
         }
     }
 
-    pub fn clear(&mut self) {
+    pub fn clear(&mut self)
+        ensures { self.new ≡ [] }
+    {
         self.end = 0;
     }
 
-    pub fn room(&self) -> usize {
+    pub fn room(&self) -> usize
+        ensures { result + length self.now ≡ answers_room }
+    {
         OUT - self.end
     }
 
-    pub fn written(&self) -> &[u8] {
+    pub fn written(&self) -> &[u8]
+        ensures { result.now ≡ self.now }
+    {
         &self.bytes[..self.end]
     }
 
-    pub fn put_text(&mut self, text: &[u8]) {
-        let room = &mut self.bytes[self.end..];
-        let count = text.len().min(room.len());
-        room[..count].copy_from_slice(&text[..count]);
+    pub fn put_text(&mut self, text: &[u8])
+        ensures { self.new ≡ take answers_room (self.old ++ text.now) }
+    {
+        let count = text.len().min(OUT - self.end);
+        self.bytes[self.end..self.end + count].copy_from_slice(&text[..count]);
         self.end += count;
     }
 
