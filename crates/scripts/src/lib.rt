@@ -10,7 +10,7 @@ use spaces::keeping::keep;
 use spaces::reasons::Reason;
 use spaces::rooms::{ROOM, Spaces};
 use texts::{Answers, Line};
-use uses::put_use;
+use uses::usage;
 
 // The most bytes of an answer: the numbers of a space, each with a minus, 19 digits and what parts it from the next.
 pub const LONGEST: usize = ROOM * 21;
@@ -19,9 +19,10 @@ fn obey(line: &[u8], spaces: &mut Spaces, out: &mut Answers) -> Result<(), Reaso
     match command_of(line) {
         Command::Blank => {}
         Command::Comment => out.put_text(line),
-        Command::Misused { name } => put_use(name, out),
-        Command::Operation { operation } => operate(operation, spaces, out)?,
-        Command::Keeping { keeping } => keep(keeping, spaces, out)?,
+        Command::Unknown => out.put("? no such command"),
+        Command::Misused(name) => out.put_text(usage(name)),
+        Command::Operation(operation) => operate(operation, spaces, out)?,
+        Command::Keeping(keeping) => keep(keeping, spaces, out)?,
     }
     Ok(())
 }

@@ -1,30 +1,22 @@
-// What is said of a command that is not understood: how it is used, or that there is none of that name.
+// What is said of a command whose words do not fit: how it is used.
 use commands::Name;
-use texts::Answers;
 
-fn put_use_of_keeping(name: Name, out: &mut Answers) {
+pub fn usage(name: Name) -> &'static [u8] {
     match name {
-        Name::Length => out.put("? use: length SPACE COUNT"),
-        Name::Set => out.put("? use: set SPACE PLACE NUMBER"),
-        Name::Fill => out.put("? use: fill SPACE PLACE STEP SIZE SEED"),
-        Name::Copy => out.put("? use: copy SPACE INTO"),
-        Name::Show => out.put("? use: show SPACE PLACE COUNT"),
-        Name::Sum => out.put("? use: sum SPACE"),
-        _ => out.put("? no such command"),
-    }
-}
-
-pub fn put_use(name: Name, out: &mut Answers) {
-    match name {
-        Name::Publish => out.put("? use: publish INTO"),
-        Name::Move => out.put("? use: move SPACE VARIABLE SHIFT INTO"),
-        Name::Read => out.put("? use: read SPACE ROOM ALPHA BETA XI ETA ZETA"),
-        Name::Floats => out.put("? use: floats SPACE ALPHA BETA XI ETA ZETA"),
-        Name::Microradians => { out.put("? use: microradians ROOM ALPHA BETA XI ETA ZETA") }
-        Name::Many => out.put("? use: many SPACE STATES COUNT INTO"),
-        Name::GtmPublish => out.put("? use: gtm_publish INTO"),
-        Name::GtmMove => out.put("? use: gtm_move SPACE VARIABLE SHIFT INTO"),
-        Name::GtmRead => out.put("? use: gtm_read SPACE ROOM ALPHA ETA"),
-        _ => put_use_of_keeping(name, out),
+        Name::Publish => b"? use: publish INTO",
+        Name::Move => b"? use: move SPACE VARIABLE SHIFT INTO",
+        Name::Read => b"? use: read SPACE ROOM ALPHA BETA XI ETA ZETA",
+        Name::Floats => b"? use: floats SPACE ALPHA BETA XI ETA ZETA",
+        Name::Microradians => b"? use: microradians ROOM ALPHA BETA XI ETA ZETA",
+        Name::Many => b"? use: many SPACE STATES COUNT INTO",
+        Name::GtmPublish => b"? use: gtm_publish INTO",
+        Name::GtmMove => b"? use: gtm_move SPACE VARIABLE SHIFT INTO",
+        Name::GtmRead => b"? use: gtm_read SPACE ROOM ALPHA ETA",
+        Name::Length => b"? use: length SPACE COUNT",
+        Name::Set => b"? use: set SPACE PLACE NUMBER",
+        Name::Fill => b"? use: fill SPACE PLACE STEP SIZE SEED",
+        Name::Copy => b"? use: copy SPACE INTO",
+        Name::Show => b"? use: show SPACE PLACE COUNT",
+        Name::Sum => b"? use: sum SPACE",
     }
 }
