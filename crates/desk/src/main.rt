@@ -6,7 +6,7 @@ use scripts::LONGEST;
 use spaces::rooms::Spaces;
 use std::io;
 use std::io::{ErrorKind, Read, Write};
-use streams::{End, Outcome};
+use streams::Fault;
 use texts::{Answers, Line};
 
 #[derive(Drop)]
@@ -27,11 +27,7 @@ impl Desk {
     }
 
     fn write_out<W: Write>(&mut self, to: &mut W) -> io::Result<()> {
-        match streams::write(to, self.answers.written()) {
-            Outcome::Moved(_) => {}
-            Outcome::Again => unreachable!(),
-            Outcome::Failed(error) => return Err(error),
-        }
+        streams::write(to, self.answers.written())?;
         self.answers.clear();
         Ok(())
     }
@@ -68,26 +64,20 @@ impl Desk {
 }
 
 // Up to the end of the input. A proved loop has to end, so it has a number of turns that no run uses up.
-fn run<R: Read, W: Write>(desk: &mut Desk, buf: &mut [u8], input: &mut R, to: &mut W) -> End {
+fn run<R: Read, W: Write>(
+    desk: &mut Desk,
+    buf: &mut [u8],
+    input: &mut R,
+    to: &mut W,
+) -> Result<(), Fault> {
     for _ in 0..u64::MAX {
-        let n = match streams::read(input, buf) {
-            Outcome::Moved(n) => n,
-            Outcome::Again => unreachable!(),
-            Outcome::Failed(error) => return End::Unread(error),
-        };
-        let told = if n == 0 {
-            desk.finish(to)
-        } else {
-            desk.take_piece(&buf[..n], to)
-        };
-        if let Err(error) = told {
-            return End::Unwritten(error);
-        }
+        let n = streams::read(input, buf).map_err(Fault::Unread)?;
         if n == 0 {
-            return End::Done;
+            return desk.finish(to).map_err(Fault::Unwritten);
         }
+        desk.take_piece(&buf[..n], to).map_err(Fault::Unwritten)?;
     }
-    End::Unread(io::Error::from(ErrorKind::TimedOut))
+    Err(Fault::Unread(io::Error::from(ErrorKind::TimedOut)))
 }
 
 fn main(rt: HostRuntime) {

@@ -2,15 +2,14 @@
 use Rattle.std.proofs.Common.{◌≡◌, ◌∙◌, refl, ap, ap₂, sym, subst, Bool, true, false, cond, if◌then◌else◌, ◌||◌, ◌&&◌, not, ℕ, ℤ, pos, negsuc, List, [], ◌∷◌, map}
 use Rattle.std.proofs.Math.Dec.{leb-suc-zero}
 use Rattle.std.proofs.lemmas.Bool.{eqb-true}
-use Rattle.std.specs.Prelude.{Ok, Err, eqb}
+use Rattle.std.specs.Prelude.{Some, None, Ok, Err, eqb}
 use Rattle.std.specs.IoError.{error_kind, kind_in, os_error_kind, os_error_kinds}
 use Rattle.std.specs.declared.io.Error.{Error}
 use Rattle.std.specs.declared.io.ErrorKind.{ErrorKind}
-use Rattle.streams.specs.declared.Outcome.TheVariants.{Moved, Again, Failed}
 use Rattle.streams.specs.Outcomes.{number_passes, passes, outcome_of}
 
 -- an answer of some bytes, and of none
-moved : map (λ k. outcome_of (Ok k)) (0 ∷ 1 ∷ 65536 ∷ []) ≡ Moved 0 ∷ Moved 1 ∷ Moved 65536 ∷ []
+moved : map (λ k. outcome_of (Ok k)) (0 ∷ 1 ∷ 65536 ∷ []) ≡ Some (Ok 0) ∷ Some (Ok 1) ∷ Some (Ok 65536) ∷ []
 moved = refl
 
 -- interrupted, and would have to wait
@@ -67,5 +66,5 @@ passes_number (negsuc n) = refl
 passes_number (pos n) = numbered n _ _ refl refl
 
 -- an error of the system's comes to what its number says
-pub told : (error : Error) (n : ℤ) → error_kind error ≡ os_error_kind n → outcome_of (Err error) ≡ cond (number_passes n) Again (Failed error)
-told error n e = ap (λ b. cond b Again (Failed error)) (ap passes e ∙ passes_number n)
+pub told : (error : Error) (n : ℤ) → error_kind error ≡ os_error_kind n → outcome_of (Err error) ≡ cond (number_passes n) None (Some (Err error))
+told error n e = ap (λ b. cond b None (Some (Err error))) (ap passes e ∙ passes_number n)

@@ -2,102 +2,88 @@
 // waits until a stream is ready, so before the next try the processor is left to whoever else wants it.
 #![tactic(auto)]
 
-ghost use Rattle.std.specs.Prelude.{◌≡◌, length};
-ghost use Rattle.streams.specs.Outcomes.{outcome_of, Got, Put, Took, Gave, GaveAll};
+ghost use Rattle.std.specs.Prelude.{◌≡◌, IfErr, false, length};
+ghost use Rattle.std.specs.IoError.{error_kind};
+ghost use Rattle.streams.specs.Outcomes.{outcome_of, passes, Got, Put, Took, Gave, GaveAll};
 
 use std::io::{Cursor, ErrorKind, Read, Write};
 use std::thread::yield_now;
 use std::{io, str};
 
-// What a call came to: so many bytes were moved; none, and it is to be tried again; or it failed.
-#[derive(Drop)]
-pub enum Outcome {
-    Moved(usize),
-    Again,
-    Failed(io::Error),
-}
-
-// What the answer of a reader's `read` or of a writer's `write` comes to.
-fn comes_to(answer: io::Result<usize>) -> Outcome
+// What the answer of a reader's `read` or of a writer's `write` comes to: none where the call is to be tried again.
+fn comes_to(answer: io::Result<usize>) -> Option<io::Result<usize>>
     ensures { result ≡ outcome_of answer }
 {
     match answer {
-        Ok(n) => Outcome::Moved(n),
+        Ok(n) => Some(Ok(n)),
         Err(error) => match error.kind() {
-            ErrorKind::Interrupted | ErrorKind::WouldBlock => Outcome::Again,
-            _ => Outcome::Failed(error),
+            ErrorKind::Interrupted | ErrorKind::WouldBlock => None,
+            _ => Some(Err(error)),
         },
     }
 }
 
-// Reads some bytes to the start of buf, none at the end of the input, or fails. A proved loop has to end, so it counts its turns down
-// from a number that no run uses up.
-pub fn read<R: Read>(from: &mut R, buf: &mut [u8]) -> Outcome
+// Reads some bytes to the start of buf, none at the end of the input, or fails. A proved loop has to end, so it has a number of turns
+// that no run uses up.
+pub fn read<R: Read>(from: &mut R, buf: &mut [u8]) -> io::Result<usize>
     ensures count { Got (length buf.old) result }
     ensures bytes { Took (R.remaining from.old) (R.remaining from.new) buf.new result }
+    ensures tried { IfErr result (λ error. passes (error_kind error) ≡ false) }
 {
-    let mut turns = u64::MAX;
-    while turns > 0 {
-        turns -= 1;
-        let got = comes_to(from.read(buf));
-        let Outcome::Again = got else {
-            return got;
-        };
-        yield_now();
+    for _ in 0..u64::MAX {
+        match comes_to(from.read(buf)) {
+            Some(answer) => return answer,
+            None => yield_now(),
+        }
     }
-    Outcome::Failed(io::Error::from(ErrorKind::TimedOut))
+    Err(io::Error::from(ErrorKind::TimedOut))
 }
 
 // Writes some of buf's first bytes, or fails.
-fn write_some<W: Write>(to: &mut W, buf: &[u8]) -> Outcome
+fn write_some<W: Write>(to: &mut W, buf: &[u8]) -> io::Result<usize>
     ensures count { Got (length buf.now) result }
     ensures bytes { Gave (W.contents to.old) (W.contents to.new) buf.now result }
+    ensures tried { IfErr result (λ error. passes (error_kind error) ≡ false) }
 {
-    let mut turns = u64::MAX;
-    while turns > 0 {
-        turns -= 1;
-        let took = comes_to(to.write(buf));
-        let Outcome::Again = took else {
-            return took;
-        };
-        yield_now();
+    for _ in 0..u64::MAX {
+        match comes_to(to.write(buf)) {
+            Some(answer) => return answer,
+            None => yield_now(),
+        }
     }
-    Outcome::Failed(io::Error::from(ErrorKind::TimedOut))
+    Err(io::Error::from(ErrorKind::TimedOut))
 }
 
 // Writes all of buf, or fails where a write does or takes nothing.
-pub fn write<W: Write>(to: &mut W, buf: &[u8]) -> Outcome
+pub fn write<W: Write>(to: &mut W, buf: &[u8]) -> io::Result<usize>
     ensures count { Put (length buf.now) result }
     ensures bytes { GaveAll (W.contents to.old) (W.contents to.new) buf.now result }
+    ensures tried { IfErr result (λ error. passes (error_kind error) ≡ false) }
 {
-    let mut done: usize = 0;
-    while done < buf.len() {
-        let put = write_some(to, &buf[done..]);
-        let Outcome::Moved(n) = put else {
-            return put;
-        };
+    let mut rest = buf;
+    while !rest.is_empty() {
+        let n = write_some(to, rest)?;
         if n == 0 {
-            return Outcome::Failed(io::Error::from(ErrorKind::WriteZero));
+            return Err(io::Error::from(ErrorKind::WriteZero));
         }
-        done += n;
+        rest = &rest[n..];
     }
-    Outcome::Moved(done)
+    Ok(buf.len())
 }
 
-// How a program's run ends: all is done, or no more could be read or written.
+// Why a program's run ends before all is done: no more could be read or written.
 #[derive(Drop)]
-pub enum End {
-    Done,
+pub enum Fault {
     Unread(io::Error),
     Unwritten(io::Error),
 }
 
 // Says in one line, to standard error as it is called, what could not be done, and why, in the system's words.
-pub fn tell<W: Write>(to: &mut W, end: End, unread: &[u8], unwritten: &[u8]) {
+pub fn tell<W: Write>(to: &mut W, end: Result<(), Fault>, unread: &[u8], unwritten: &[u8]) {
     match end {
-        End::Done => {}
-        End::Unread(error) => fail(to, unread, &error),
-        End::Unwritten(error) => fail(to, unwritten, &error),
+        Ok(()) => {}
+        Err(Fault::Unread(error)) => fail(to, unread, &error),
+        Err(Fault::Unwritten(error)) => fail(to, unwritten, &error),
     }
 }
 

@@ -1,10 +1,10 @@
 -- `answer_piece`: the reading is that of the bytes answered, and each turn takes some of those that are left.
-use Rattle.std.proofs.Common.{◌≡◌, ◌≤◌, ◌-◌, length, take}
+use Rattle.std.proofs.Common.{◌≡◌, length}
 use Rattle.answers.specs.Reading.{readings_after}
 use Rattle.trimcard.proofs.answer_piece.Given as goal
 
-abbrev pub invariant-loop-at : goal.invariant-loop-at
-invariant-loop-at g l = (l.at ≤ length l.piece) × (length l.out ≡ length l.initial.out) × (l.current ≡ readings_after l.initial.current (take l.at l.piece))
+abbrev pub invariant-loop-rest : goal.invariant-loop-rest
+invariant-loop-rest g l = (readings_after l.current l.rest ≡ readings_after l.initial.current l.piece) × (length l.out ≡ length l.initial.out)
 
-abbrev pub decreases-loop-at : goal.decreases-loop-at
-decreases-loop-at g l = length l.piece - l.at
+abbrev pub decreases-loop-rest : goal.decreases-loop-rest
+decreases-loop-rest g l = length l.rest

@@ -1,9 +1,0 @@
--- `run`: the buffers are as long as they were, and the loop ends with its turns.
-use Rattle.std.proofs.Common.{◌≡◌, length}
-use Rattle.trimcard.proofs.run.Given as goal
-
-abbrev pub invariant-loop-turns : goal.invariant-loop-turns
-invariant-loop-turns g l = (length l.buf ≡ length l.initial.buf) × (length l.out ≡ length l.initial.out)
-
-abbrev pub decreases-loop-turns : goal.decreases-loop-turns
-decreases-loop-turns g l = l.turns
