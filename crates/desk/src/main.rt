@@ -22,7 +22,7 @@ impl Desk {
         Desk {
             line: Line::new(),
             spaces: Spaces::new(TABLE),
-            answers: Answers::at(0),
+            answers: Answers::new(),
         }
     }
 

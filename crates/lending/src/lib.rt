@@ -27,6 +27,7 @@ impl Number for u64 {
     const PATTERN: u64 = 1234567890123456789;
 }
 
+// A room that is no Vec, since there is no heap.
 #[derive(Drop)]
 pub struct Lent<T> {
     numbers: [T; LENT],
@@ -43,7 +44,7 @@ impl<T: Number> Lent<T> {
         }
     }
 
-    // What is lent.
+    // What is lent. Its end is taken first, since nothing may be read of the struct once a part of it is lent out.
     pub fn part(&mut self) -> &mut [T] {
         let end = MARGIN + self.length;
         let numbers = &mut self.numbers;

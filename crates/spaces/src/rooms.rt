@@ -1,4 +1,4 @@
-// The spaces: each is a room for numbers, of which the first ones are its numbers.
+// The spaces: each is a room for numbers, of which the first ones are its numbers. The room is no Vec, since there is no heap.
 ghost use Rattle.std.specs.Prelude.{◌≤◌};
 ghost use Rattle.spaces.specs.Sizes.{space_room};
 
@@ -50,6 +50,7 @@ impl Space {
     // Its numbers become those, as many as it has room for.
     pub fn write(&mut self, numbers: &[i64]) {
         let count = numbers.len().min(ROOM);
+        // The 0 is needed: with `..count` the borrow checker has no rule for a field beside an invariant.
         self.room[0..count].copy_from_slice(&numbers[..count]);
         self.length = count;
     }

@@ -2,8 +2,8 @@
 // cut off.
 #![tactic(auto)]
 
-ghost use Rattle.std.specs.Prelude.{◌≡◌, ◌≤◌, ◌+◌, ◌++◌, List, [], ℕ, length, min, take};
-ghost use Rattle.texts.specs.Held.{held_after, line_after};
+ghost use Rattle.std.specs.Prelude.{◌≡◌, ◌≤◌, ◌<◌, ◌+◌, ◌++◌, ◌↔◌, IsTrue, List, MatchOption, [], ℕ, length, take};
+ghost use Rattle.texts.specs.Held.{held_after, line_after, longest_line};
 ghost use Rattle.texts.specs.Room.{answers_room};
 
 use std::fmt;
@@ -16,7 +16,8 @@ pub const OUT: usize = 65536;
 // The most bytes of a line.
 pub const LINE: usize = 256;
 
-// The first bytes of a line and how many are held: one more than there is room for where the line is too long.
+// The first bytes of a line and how many are held: one more than there is room for where the line is too long. The room is no Vec, since
+// there is no heap.
 #[derive(Drop)]
 pub struct Line {
     pub bytes: [u8; LINE],
@@ -24,7 +25,9 @@ pub struct Line {
 }
 
 impl Line {
-    pub fn new() -> Line {
+    pub fn new() -> Line
+        ensures { result.held ≡ 0 }
+    {
         Line {
             bytes: [0; LINE],
             held: 0,
@@ -44,28 +47,33 @@ impl Line {
         self.held += 1;
     }
 
-    pub fn clear(&mut self) {
+    pub fn clear(&mut self)
+        ensures { self.new.held ≡ 0 }
+    {
         self.held = 0;
     }
 
-    pub fn is_empty(&self) -> bool {
+    pub fn is_empty(&self) -> bool
+        ensures { IsTrue result ↔ self.now.held ≡ 0 }
+    {
         self.held == 0
     }
 
     // What the line says, where it is not too long.
-    pub fn text(&self) -> Option<&[u8]> {
+    pub fn text(&self) -> Option<&[u8]>
+        ensures { MatchOption result (longest_line < self.now.held) (λ text. text.now ≡ take self.now.held self.now.bytes) }
+    {
         self.bytes.get(..self.held)
     }
 }
 
-// The answers that are not written out yet.
+// The answers that are not written out yet. Their room is no Vec, since there is no heap.
 #[derive(Drop)]
 pub struct Answers {
     bytes: [u8; OUT],
     end: usize,
 }
 
-// The bytes that are not written out.
 impl Model for Answers {
     ghost Value = { List ℕ };
 
@@ -75,13 +83,12 @@ impl Model for Answers {
 }
 
 impl Answers {
-    // Answers that begin at a place; one behind the room is its end.
-    pub fn at(place: usize) -> Answers
-        ensures { length result ≡ min place answers_room }
+    pub fn new() -> Answers
+        ensures { result ≡ [] }
     {
         Answers {
             bytes: [0; OUT],
-            end: place.min(OUT),
+            end: 0,
         }
     }
 
@@ -111,6 +118,7 @@ impl Answers {
         self.end += count;
     }
 
+    // Nothing is said of the bytes: a value's own printing may break off.
     pub fn put<D: Display + Drop>(&mut self, value: D) {
         let _ = write!(self, "{value}");
     }
@@ -127,6 +135,8 @@ impl Answers {
 }
 
 impl Write for Answers {
+    ghost write_str_gives = { λ before text after. after ≡ take answers_room (before ++ text) };
+
     fn write_str(&mut self, text: &str) -> fmt::Result {
         self.put_text(text.as_bytes());
         Ok(())
