@@ -8,7 +8,7 @@ use spaces::rooms::Spaces;
 use texts::Answers;
 use writings::{move_zero, publish, read_many};
 
-// A table that is moved or read into a space may be that space's own.
+// A table may be moved or read into its own space, so it is copied first.
 pub fn operate(operation: Operation, spaces: &mut Spaces, out: &mut Answers) -> Result<(), Reason> {
     match operation {
         Operation::Publish { model, into } => publish(model, spaces.get_mut(into)?, out),

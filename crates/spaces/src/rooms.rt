@@ -1,5 +1,5 @@
 // The spaces: each is a room for numbers, of which the first ones are its numbers. The room is no Vec, since there is no heap.
-ghost use Rattle.std.specs.Prelude.{◌≤◌};
+ghost use Rattle.std.specs.Prelude.{◌<◌, ◌≤◌, MatchResult, length};
 ghost use Rattle.spaces.specs.Sizes.{space_room};
 
 use super::drawing::draw;
@@ -25,7 +25,9 @@ impl Space {
         }
     }
 
-    pub fn numbers(&self) -> &[i64] {
+    pub fn numbers(&self) -> &[i64]
+        ensures { length result.now ≤ space_room }
+    {
         &self.room[..self.length]
     }
 
@@ -56,12 +58,14 @@ impl Space {
     }
 
     // New numbers are 0.
-    pub fn set_length(&mut self, length: u64) -> Result<(), Reason> {
-        if length > ROOM as u64 {
+    pub fn set_length(&mut self, count: u64) -> Result<(), Reason>
+        ensures { MatchResult result (λ _. count ≤ space_room) (λ _. space_room < count) }
+    {
+        if count > ROOM as u64 {
             return Err(Reason::NoRoom);
         }
         self.room[self.length..].fill(0);
-        self.length = length as usize;
+        self.length = count as usize;
         Ok(())
     }
 }
@@ -78,11 +82,15 @@ impl Spaces {
         }
     }
 
-    pub fn get(&self, space: u64) -> Result<&Space, Reason> {
+    pub fn get(&self, space: u64) -> Result<&Space, Reason>
+        ensures { MatchResult result (λ _. space < SPACES) (λ _. SPACES ≤ space) }
+    {
         self.all.get(space as usize).ok_or(Reason::NoSpace)
     }
 
-    pub fn get_mut(&mut self, space: u64) -> Result<&mut Space, Reason> {
+    pub fn get_mut(&mut self, space: u64) -> Result<&mut Space, Reason>
+        ensures { MatchResult result (λ _. space < SPACES) (λ _. SPACES ≤ space) }
+    {
         self.all.get_mut(space as usize).ok_or(Reason::NoSpace)
     }
 }
