@@ -5,11 +5,13 @@ ghost use Rattle.std.specs.Prelude.{◌≡◌, ◌+◌, ◌<◌, ◌≤◌, leng
 ghost use Rattle.printing.specs.Spell.{written};
 ghost use Rattle.answers.specs.Answers.{spaced, numbered, line_answer, longest_values, longest};
 ghost use Rattle.layout.specs.Shape.{cumulus};
+ghost use Rattle.layout.specs.Refusals.{given_back};
 ghost use Rattle.tables.specs.Ready.{table_number};
 ghost use Rattle.answers.specs.Reading.{fresh, last_in, Feeding, LinePart, Taking, Taken};
 
 use layout::Model;
 use layout::cumulus_one::{BLOCKS, VARIABLES};
+use layout::refusals::{Refused, given_back};
 use lines::State;
 use printing::{LONGEST_NUMBER, put_few, put_number};
 use tables::reading::read_known;
@@ -75,15 +77,15 @@ fn put_answer(number: u64, values: [i64; BLOCKS], out: &mut [u8], at: usize) -> 
     end + 1
 }
 
-// The answer of a table, whose own refusal is known, to a line, from the place `at` on; gives the place behind it.
+// The answer of a table, of which it is known whether it is refused, to a line, from the place `at` on; gives the place behind it.
 fn put_line(
     table: &[i64],
-    refused: u64,
+    known: Result<(), Refused>,
     line: Option<[i64; VARIABLES]>,
     out: &mut [u8],
     at: usize,
 ) -> usize
-    requires { (refused ≡ table_number cumulus table.now) × (at + longest ≤ length out.old) }
+    requires { (given_back known ≡ table_number cumulus table.now) × (at + longest ≤ length out.old) }
     ensures place { result ≡ at + length (line_answer table.now line) }
     ensures output { out.new ≡ written out.old at (line_answer table.now line) }
     ensures room { result ≤ at + longest }
@@ -91,7 +93,10 @@ fn put_line(
     let mut values = [0i64; BLOCKS];
     let number = match line {
         None => MALFORMED,
-        Some(state) => read_known(Model::Cumulus, table, refused, state, &mut values),
+        Some(state) => {
+            let outcome = read_known(Model::Cumulus, table, known, state, &mut values);
+            given_back(outcome)
+        }
     };
     put_answer(number, values, out, at)
 }
@@ -130,14 +135,14 @@ fn step_line(line: State, input: &[u8], from: usize) -> Part
 // Takes the input from the place `from` on up to the end of a line, which is answered from the place `at` on, or up to its own end.
 fn take_line(
     table: &[i64],
-    refused: u64,
+    known: Result<(), Refused>,
     reading: Reading,
     input: &[u8],
     from: usize,
     out: &mut [u8],
     at: usize,
 ) -> Fed
-    requires { Taking table.now refused input.now from out.old at }
+    requires { Taking table.now known input.now from out.old at }
     ensures { Taken table.now reading input.now from out.old out.new at result }
 {
     let Part { line, end } = step_line(reading.line, input, from);
@@ -148,7 +153,7 @@ fn take_line(
             put: at,
         };
     }
-    let put = put_line(table, refused, line.finish(), out, at);
+    let put = put_line(table, known, line.finish(), out, at);
     Fed {
         reading: Reading::fresh(),
         taken: end + 1,
@@ -160,14 +165,14 @@ fn take_line(
 pub fn feed(table: &[i64], reading: Reading, input: &[u8], out: &mut [u8]) -> Fed
     ensures { Feeding table.now reading input.now out.old out.new result }
 {
-    let refused = refusal_of(Model::Cumulus, table);
+    let known = refusal_of(Model::Cumulus, table);
     let mut fed = Fed {
         reading,
         taken: 0,
         put: 0,
     };
     while fed.taken < input.len() && out.len() - fed.put >= LONGEST {
-        fed = take_line(table, refused, fed.reading, input, fed.taken, out, fed.put);
+        fed = take_line(table, known, fed.reading, input, fed.taken, out, fed.put);
     }
     fed
 }
@@ -182,6 +187,6 @@ pub fn finish(table: &[i64], reading: Reading, out: &mut [u8]) -> usize
     if out.len() < LONGEST || !reading.begun {
         return 0;
     }
-    let refused = refusal_of(Model::Cumulus, table);
-    put_line(table, refused, reading.line.finish(), out, 0)
+    let known = refusal_of(Model::Cumulus, table);
+    put_line(table, known, reading.line.finish(), out, 0)
 }

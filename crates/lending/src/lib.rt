@@ -5,7 +5,7 @@
 ghost use Rattle.std.specs.Prelude.{◌≤◌};
 ghost use Rattle.spaces.specs.Sizes.{space_room};
 
-use layout::refusals::DONE;
+use layout::refusals::Refused;
 use spaces::drawing::checksum;
 use spaces::rooms::{ROOM, Space};
 use texts::Answers;
@@ -71,7 +71,8 @@ fn is_pattern<T: Number>(numbers: &[T]) -> bool {
     numbers.iter().all(|number| *number == T::PATTERN)
 }
 
-fn put_refused(number: u64, is_untouched: bool, out: &mut Answers) {
+fn put_refused(refused: Refused, is_untouched: bool, out: &mut Answers) {
+    let number = refused.number();
     let touched = if is_untouched { "untouched" } else { "touched" };
     out.put(format_args!("{number} {touched}"));
 }
@@ -92,42 +93,48 @@ fn put_wrote(lent: &Lent<i64>, into: &mut Space, out: &mut Answers) {
 }
 
 // What is said of a written table.
-pub fn settle(number: u64, lent: &Lent<i64>, into: &mut Space, out: &mut Answers) {
-    if number == DONE {
-        put_wrote(lent, into, out);
-    } else {
-        put_refused(number, lent.is_untouched(), out);
+pub fn settle(
+    outcome: Result<(), Refused>,
+    lent: &Lent<i64>,
+    into: &mut Space,
+    out: &mut Answers,
+) {
+    match outcome {
+        Ok(()) => put_wrote(lent, into, out),
+        Err(refused) => put_refused(refused, lent.is_untouched(), out),
     }
     put_sides(lent.is_kept(), out);
 }
 
 // What is said of many states: what each was given, and the values that were written.
 pub fn settle_many(
-    number: u64,
+    outcome: Result<(), Refused>,
     given: &Lent<u64>,
     lent: &Lent<i64>,
     into: &mut Space,
     out: &mut Answers,
 ) {
-    if number == DONE {
-        put_wrote(lent, into, out);
-        out.put(" gave");
-        for number in given.written() {
-            out.put(format_args!(" {number}"));
+    match outcome {
+        Ok(()) => {
+            put_wrote(lent, into, out);
+            out.put(" gave");
+            for number in given.written() {
+                out.put(format_args!(" {number}"));
+            }
         }
-    } else {
-        put_refused(number, given.is_untouched() && lent.is_untouched(), out);
+        Err(refused) => put_refused(refused, given.is_untouched() && lent.is_untouched(), out),
     }
     put_sides(given.is_kept() && lent.is_kept(), out);
 }
 
 // What is said of values that were read.
-pub fn put_read(number: u64, lent: &Lent<i64>, out: &mut Answers) {
-    if number == DONE {
-        out.put("0 ");
-        out.put_numbers(lent.written());
-    } else {
-        put_refused(number, lent.is_untouched(), out);
+pub fn put_read(outcome: Result<(), Refused>, lent: &Lent<i64>, out: &mut Answers) {
+    match outcome {
+        Ok(()) => {
+            out.put("0 ");
+            out.put_numbers(lent.written());
+        }
+        Err(refused) => put_refused(refused, lent.is_untouched(), out),
     }
     put_sides(lent.is_kept(), out);
 }

@@ -8,6 +8,7 @@ ghost use Rattle.polynomials.specs.Sum.{listed};
 ghost use Rattle.layout.specs.Shape.{cumulus};
 ghost use Rattle.layout.specs.Blocks.{piece as piece_of};
 ghost use Rattle.layout.specs.Reading.{readings};
+ghost use Rattle.layout.specs.Refusals.{given_back};
 ghost use Rattle.cumulus_page.specs.Model.{coefficient_at};
 ghost use Rattle.microradians.specs.Fixed.{◌⊛◌};
 ghost use Rattle.microradians.specs.Answer.{answer_in, fine_number, fine_output};
@@ -16,7 +17,7 @@ ghost use Rattle.microradians.specs.Ready.{most, Near, AllNear};
 use cumulus::PUBLISHED;
 use layout::Model;
 use layout::cumulus_one::{BLOCKS, LIMITS, PITCH_DEGREE, SIDE_DEGREE, VARIABLES};
-use layout::refusals::{DONE, WRONG_OUTPUT};
+use layout::refusals::Refused;
 use limits::Limits;
 use numbers::{GROUPS, numbers_of};
 use polynomials::{Product, group_at};
@@ -87,22 +88,19 @@ fn write_answers(piece: usize, state: [i64; VARIABLES], out: &mut [i64])
 
 // Reads the six coefficients of the published table at a state of five whole microradians into `out`, in units of 10^-9, or refuses and leaves `out`
 // as it was.
-pub fn read(state: [i64; VARIABLES], out: &mut [i64]) -> u64
-    ensures number { result ≡ fine_number (readings state) out.old }
+pub fn read(state: [i64; VARIABLES], out: &mut [i64]) -> Result<(), Refused>
+    ensures number { given_back result ≡ fine_number (readings state) out.old }
     ensures output { out.new ≡ fine_output (readings state) out.old }
 {
     if out.len() != BLOCKS {
-        return WRONG_OUTPUT;
+        return Err(Refused::WrongOutput);
     }
     let limits = Limits {
         model: Model::Cumulus,
         numbers: FINE_ENVELOPE,
     };
-    let outside = limits.outside(&state);
-    if outside != DONE {
-        return outside;
-    }
+    limits.outside(&state)?;
     let piece = limits.piece(state[0]);
     write_answers(piece, state, out);
-    DONE
+    Ok(())
 }

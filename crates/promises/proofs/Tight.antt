@@ -28,7 +28,12 @@ use Rattle.polynomials.specs.declared.Product as product
 use Rattle.polynomials.specs.Limits.{cap}
 use Rattle.polynomials.specs.Ready.{Reached}
 use Rattle.polynomials.specs.declared.Reach.{Reach}
+use Rattle.std.specs.Prelude.{Result}
 use Rattle.layout.specs.declared.Model.{Model}
+use Rattle.layout.specs.declared.refusals.Angle.{Angle}
+use Rattle.layout.specs.declared.refusals.Refused.{Refused}
+use Rattle.layout.specs.Refusals.{place, refusal_number, given_back}
+use Rattle.layout.proofs.Outcomes.{given-once, refused-once, place-once}
 use Rattle.limits.specs.declared.Limits.{Limits}
 use Rattle.printing.specs.Spell.{written}
 use Rattle.answers.specs.Reading.{readings_after, answers_of, Feeding}
@@ -39,6 +44,8 @@ use Rattle.whole.proofs as whole'
 use Rattle.polynomials.specs.contracts as polynomials
 use Rattle.polynomials.proofs as polynomials'
 use Rattle.shifting.specs.declared.Rows.{Rows}
+use Rattle.layout.specs.contracts as layout
+use Rattle.layout.proofs as layout'
 use Rattle.shifting.specs.contracts as shifting
 use Rattle.shifting.proofs as shifting'
 use Rattle.shapes.specs.contracts as shapes
@@ -114,12 +121,29 @@ tight {T} {κs = κs} {a} o p h = (h.0, same-lasts κs T.signature.params T.kept
 same : {A : Type 0} {x y z : A} → x ≡ z → y ≡ z → x ≡ y
 same p q = p ∙ sym q
 
+-- an outcome has a number of its own, and so has a refusal and an angle
+same-outcome : {x y : Result (Unit {0}) Refused} {n : ℕ} → given_back x ≡ n → given_back y ≡ n → x ≡ y
+same-outcome {x} {y} p q = given-once x y (p ∙ sym q)
+
+same-refused : {x y : Refused} {n : ℕ} → refusal_number x ≡ n → refusal_number y ≡ n → x ≡ y
+same-refused {x} {y} p q = refused-once x y (p ∙ sym q)
+
+same-angle : {x y : Angle} {n : ℕ} → place x ≡ n → place y ≡ n → x ≡ y
+same-angle {x} {y} p q = place-once x y (p ∙ sym q)
+
 -- ════ whole
 pub magnitude-tight : Tight whole.magnitude.ended whole'.magnitude.Reads.Post
 magnitude-tight κs a o p = tight o p (search same)
 
 pub nearest-away-tight : Tight whole.nearest_away.ended whole'.nearest_away.Reads.Post
 nearest-away-tight κs a o p = tight o p (search same)
+
+-- ════ layout
+pub refusal-number-tight : Tight layout.refusals.Refused.number.ended layout'.refusals.Refused.number.Reads.Post
+refusal-number-tight κs a o p = tight o p (search same)
+
+pub given-back-tight : Tight layout.refusals.given_back.ended layout'.refusals.given_back.Reads.Post
+given-back-tight κs a o p = tight o p (search same)
 
 -- ════ polynomials
 same-reach : {x y : Reach} {n : ℕ} → (x.size ≡ n) × Reached x → (y.size ≡ n) × Reached y → x ≡ y
@@ -192,7 +216,10 @@ pub shape-start-tight : Tight shapes.start.ended shapes'.start.Reads.Post
 shape-start-tight κs a o p = tight o p (search same)
 
 pub shape-outside-tight : Tight shapes.outside.ended shapes'.outside.Reads.Post
-shape-outside-tight κs a o p = tight o p (search same)
+shape-outside-tight κs a o p = tight o p (search same-refused)
+
+pub shape-angle-tight : Tight shapes.angle.ended shapes'.angle.Reads.Post
+shape-angle-tight κs a o p = tight o p (search same-angle)
 
 pub shape-kind-tight : Tight shapes.kind.ended shapes'.kind.Reads.Post
 shape-kind-tight κs a o p = tight o p (search same)
@@ -226,7 +253,7 @@ pub limits-inside-tight : Tight limits.Limits.inside.ended limits'.Limits.inside
 limits-inside-tight κs a o p = tight o p (search same)
 
 pub limits-outside-tight : Tight limits.Limits.outside.ended limits'.Limits.outside.Reads.Post
-limits-outside-tight κs a o p = tight o p (search same)
+limits-outside-tight κs a o p = tight o p (search (same, same-outcome))
 
 pub limits-piece-tight : Tight limits.Limits.piece.ended limits'.Limits.piece.Reads.Post
 limits-piece-tight κs a o p = tight o p (search same)
@@ -247,60 +274,60 @@ copy-tight κs a o p = tight o p (search same)
 
 -- ════ tables
 pub publish-table-tight : Tight tables.publishing.publish.ended tables'.publishing.publish.Reads.Post
-publish-table-tight κs a o p = tight o p (search same)
+publish-table-tight κs a o p = tight o p (search (same, same-outcome))
 
 pub soundness-tight : Tight tables.soundness.soundness.ended tables'.soundness.soundness.Reads.Post
-soundness-tight κs a o p = tight o p (search same)
+soundness-tight κs a o p = tight o p (search (same, same-outcome))
 
 pub refusal-of-tight : Tight tables.soundness.refusal_of.ended tables'.soundness.refusal_of.Reads.Post
-refusal-of-tight κs a o p = tight o p (search same)
+refusal-of-tight κs a o p = tight o p (search (same, same-outcome))
 
 pub write-values-tight : Tight tables.reading.write_values.ended tables'.reading.write_values.Reads.Post
 write-values-tight κs a o p = tight o p (search same)
 
 pub read-sound-tight : Tight tables.reading.read_sound.ended tables'.reading.read_sound.Reads.Post
-read-sound-tight κs a o p = tight o p (search same)
+read-sound-tight κs a o p = tight o p (search (same, same-outcome))
 
 pub read-known-tight : Tight tables.reading.read_known.ended tables'.reading.read_known.Reads.Post
-read-known-tight κs a o p = tight o p (search same)
+read-known-tight κs a o p = tight o p (search (same, same-outcome))
 
 pub refusal-into-tight : Tight tables.soundness.refusal_into.ended tables'.soundness.refusal_into.Reads.Post
-refusal-into-tight κs a o p = tight o p (search same)
+refusal-into-tight κs a o p = tight o p (search (same, same-outcome))
 
 -- ════ moving
 pub model-move-datum-tight : Tight moving.move_datum.ended moving'.move_datum.Reads.Post
-model-move-datum-tight κs a o p = tight o p (search same)
+model-move-datum-tight κs a o p = tight o p (search (same, same-outcome))
 
 -- ════ states
 pub model-read-many-tight : Tight states.read_many.ended states'.read_many.Reads.Post
-model-read-many-tight κs a o p = tight o p (search same)
+model-read-many-tight κs a o p = tight o p (search (same, same-outcome))
 
 -- ════ cumulus
 pub publish-tight : Tight cumulus.publish.ended cumulus'.publish.Reads.Post
-publish-tight κs a o p = tight o p (search same)
+publish-tight κs a o p = tight o p (search (same, same-outcome))
 
 pub read-tight : Tight cumulus.read.ended cumulus'.read.Reads.Post
-read-tight κs a o p = tight o p (search same)
+read-tight κs a o p = tight o p (search (same, same-outcome))
 
 pub read-many-tight : Tight cumulus.read_many.ended cumulus'.read_many.Reads.Post
-read-many-tight κs a o p = tight o p (search same)
+read-many-tight κs a o p = tight o p (search (same, same-outcome))
 
 pub move-datum-tight : Tight cumulus.move_datum.ended cumulus'.move_datum.Reads.Post
-move-datum-tight κs a o p = tight o p (search same)
+move-datum-tight κs a o p = tight o p (search (same, same-outcome))
 
 -- ════ gtm
 pub gtm-publish-tight : Tight gtm.publish.ended gtm'.publish.Reads.Post
-gtm-publish-tight κs a o p = tight o p (search same)
+gtm-publish-tight κs a o p = tight o p (search (same, same-outcome))
 
 pub gtm-read-tight : Tight gtm.read.ended gtm'.read.Reads.Post
-gtm-read-tight κs a o p = tight o p (search same)
+gtm-read-tight κs a o p = tight o p (search (same, same-outcome))
 
 pub gtm-move-datum-tight : Tight gtm.move_datum.ended gtm'.move_datum.Reads.Post
-gtm-move-datum-tight κs a o p = tight o p (search same)
+gtm-move-datum-tight κs a o p = tight o p (search (same, same-outcome))
 
 -- ════ microradians
 pub read-microradians-tight : Tight microradians.read.ended microradians'.read.Reads.Post
-read-microradians-tight κs a o p = tight o p (search same)
+read-microradians-tight κs a o p = tight o p (search (same, same-outcome))
 
 -- ════ rounding
 pub at-most-tight : Tight thousandths.at_most.ended thousandths'.at_most.Reads.Post

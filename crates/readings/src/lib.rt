@@ -5,6 +5,7 @@
 
 use commands::State;
 use layout::cumulus_one::VARIABLES;
+use layout::refusals::Refused;
 use lending::{Lent, put_read};
 use patterns::{floats_of, put_answer};
 use spaces::reasons::Reason;
@@ -12,7 +13,7 @@ use spaces::rooms::ROOM;
 use texts::Answers;
 
 // What the library reads, by the model of the state.
-fn read_table(table: &[i64], state: State, out: &mut [i64]) -> u64 {
+fn read_table(table: &[i64], state: State, out: &mut [i64]) -> Result<(), Refused> {
     match state {
         State::Cumulus {
             alpha,
@@ -34,8 +35,8 @@ fn lend(room: u64) -> Result<Lent<i64>, Reason> {
 
 pub fn read(table: &[i64], room: u64, state: State, out: &mut Answers) -> Result<(), Reason> {
     let mut lent = lend(room)?;
-    let number = read_table(table, state, lent.part());
-    put_read(number, &lent, out);
+    let outcome = read_table(table, state, lent.part());
+    put_read(outcome, &lent, out);
     Ok(())
 }
 
@@ -45,8 +46,8 @@ pub fn read_microradians(
     out: &mut Answers,
 ) -> Result<(), Reason> {
     let mut lent = lend(room)?;
-    let number = microradians::read(readings, lent.part());
-    put_read(number, &lent, out);
+    let outcome = microradians::read(readings, lent.part());
+    put_read(outcome, &lent, out);
     Ok(())
 }
 

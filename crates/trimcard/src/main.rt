@@ -60,7 +60,7 @@ impl<W: Write> Program<W> {
 
 fn main(rt: HostRuntime) {
     let mut table = [0i64; TABLE];
-    cumulus::publish(&mut table);
+    let _ = cumulus::publish(&mut table);
     let mut program = Program {
         table,
         reading: Reading::fresh(),

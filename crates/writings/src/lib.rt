@@ -3,20 +3,27 @@
 #![tactic(auto)]
 
 use layout::Model;
+use layout::refusals::Refused;
 use lending::{Lent, settle, settle_many};
 use spaces::reasons::Reason;
 use spaces::rooms::{ROOM, Space};
 use texts::Answers;
 
 // What the library writes, by its model.
-fn publish_table(model: Model, out: &mut [i64]) -> u64 {
+fn publish_table(model: Model, out: &mut [i64]) -> Result<(), Refused> {
     match model {
         Model::Cumulus => cumulus::publish(out),
         Model::Gtm => gtm::publish(out),
     }
 }
 
-fn move_table(model: Model, table: &[i64], variable: usize, shift: i64, out: &mut [i64]) -> u64 {
+fn move_table(
+    model: Model,
+    table: &[i64],
+    variable: usize,
+    shift: i64,
+    out: &mut [i64],
+) -> Result<(), Refused> {
     match model {
         Model::Cumulus => cumulus::move_datum(table, variable, shift, out),
         Model::Gtm => gtm::move_datum(table, variable, shift, out),
@@ -25,8 +32,8 @@ fn move_table(model: Model, table: &[i64], variable: usize, shift: i64, out: &mu
 
 pub fn publish(model: Model, into: &mut Space, out: &mut Answers) {
     let mut lent = Lent::new(into.numbers().len());
-    let number = publish_table(model, lent.part());
-    settle(number, &lent, into, out);
+    let outcome = publish_table(model, lent.part());
+    settle(outcome, &lent, into, out);
 }
 
 pub fn move_zero(
@@ -38,8 +45,8 @@ pub fn move_zero(
     out: &mut Answers,
 ) {
     let mut lent = Lent::new(into.numbers().len());
-    let number = move_table(model, table, variable as usize, shift, lent.part());
-    settle(number, &lent, into, out);
+    let outcome = move_table(model, table, variable as usize, shift, lent.part());
+    settle(outcome, &lent, into, out);
 }
 
 // There is room for what so many states are given.
@@ -55,7 +62,7 @@ pub fn read_many(
     }
     let mut given = Lent::new(count as usize);
     let mut lent = Lent::new(into.numbers().len());
-    let number = cumulus::read_many(table, states, given.part(), lent.part());
-    settle_many(number, &given, &lent, into, out);
+    let outcome = cumulus::read_many(table, states, given.part(), lent.part());
+    settle_many(outcome, &given, &lent, into, out);
     Ok(())
 }
