@@ -26,7 +26,7 @@ pub put_answer-requires : goal.put_answer-requires
 put_answer-requires c =
     let few : c.match-line.number < 10000 = elim c.match-line.branch [
       | in-None w ↦ omega (arith, w.number-is)
-      | in-Some w ↦ subst (λ n. n < 10000) (sym (w.number-is ∙ w.given_back.ensures ∙ w.read_known-outcome.ensures.number)) (read-few c.args.table.now _ zeros)
+      | in-Some w ↦ subst (λ n. n < 10000) (sym (w.number-is ∙ w.given_back-number.ensures ∙ w.read_known-outcome.ensures.number)) (read-few c.args.table.now _ zeros)
     ] in
     (few, c.requires.1)
 
@@ -35,7 +35,7 @@ returns c =
     let t = c.args.table.now in
     let whole : numbered c.match-line.number c.match-line.values ≡ line_answer t c.args.line = elim c.match-line.branch [
       | in-None w ↦ malformed t w.in-None.is w.number-is w.values-is
-      | in-Some w ↦ answered t w.in-Some.is (w.number-is ∙ w.given_back.ensures ∙ w.read_known-outcome.ensures.number) (w.values-is ∙ w.read_known-outcome.ensures.output)
+      | in-Some w ↦ answered t w.in-Some.is (w.number-is ∙ w.given_back-number.ensures ∙ w.read_known-outcome.ensures.number) (w.values-is ∙ w.read_known-outcome.ensures.output)
     ] in
     record {
       place = c.put_answer.ensures.place ∙ ap (λ bytes. c.args.at + length bytes) whole;
