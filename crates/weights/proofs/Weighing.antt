@@ -1,15 +1,19 @@
 -- The weight of a coefficient: that of its piece's own group, and that of the groups that the pieces share.
 --   Weighing          what a loop over the shared groups has weighed, with weighing-none, next-inside, weighing-more and weighing-all
 --   own_weight, both_weight, coefficient-weight   a coefficient's weight by the two
+--   fits              whether it is within the cap
 use mathlib.Core.Path.{◌≡◌, refl, sym, ◌∙◌, ap, ap₂}
+use mathlib.Core.Bool.{Bool}
 use mathlib.Core.List.{List, [], ◌∷◌}
 use Prim.Native.Nat.{ℕ, zero, suc, ◌+◌, ◌≤◌, ◌<◌}
 use native.Mathlib.Omega.{arith}
+use lib.Dec.{leb}
 use lib.IntN.{ℤ}
 use lib.ListN.{length, take, drop}
 use Rattle.polynomials.specs.Order.{size}
 use Rattle.polynomials.specs.Group.{weight}
 use Rattle.polynomials.specs.Groups.{weight_of, total_weight}
+use Rattle.polynomials.specs.Limits.{cap}
 use Rattle.polynomials.specs.declared.Reach.{Reach}
 use Rattle.layout.specs.declared.Kind.{Kind}
 use Rattle.layout.specs.declared.Model.{Model}
@@ -54,6 +58,10 @@ module _ (S : Shape) (t : List ℤ) (l : List Reach) where
 
   abbrev pub both_weight : ℕ → ℕ
   both_weight b = total_weight (groups (shared S) (drop (shared_at S (block_start S b)) t)) (high_in l)
+
+-- the weight of a coefficient is within the cap
+abbrev pub fits : Shape → List ℤ → List Reach → ℕ → ℕ → Bool
+fits S t l b n = leb (own_weight S t l b n + both_weight S t l b) cap
 
 module _ (sizes : List ℕ) (l : List Reach) (m : Measured sizes l) where
   beside-zero : (p : Piece) (i : ℕ) → 0 < i → i < variables_room → reaches_of sizes p i ≡ high_in l i
