@@ -132,28 +132,26 @@ fn step_line(line: State, input: &[u8], from: usize) -> Part
     }
 }
 
-// Takes the input from the place `from` on up to the end of a line, which is answered from the place `at` on, or up to its own end.
+// Takes the input on up to the end of a line, which is answered behind the answers before it, or up to its own end.
 fn take_line(
     table: &[i64],
     known: Result<(), Refused>,
-    reading: Reading,
+    fed: Fed,
     input: &[u8],
-    from: usize,
     out: &mut [u8],
-    at: usize,
 ) -> Fed
-    requires { Taking table.now known input.now from out.old at }
-    ensures { Taken table.now reading input.now from out.old out.new at result }
+    requires { Taking table.now known input.now fed.taken out.old fed.put }
+    ensures { Taken table.now fed.reading input.now fed.taken out.old out.new fed.put result }
 {
-    let Part { line, end } = step_line(reading.line, input, from);
+    let Part { line, end } = step_line(fed.reading.line, input, fed.taken);
     if end >= input.len() {
         return Fed {
             reading: Reading { line, begun: true },
             taken: end,
-            put: at,
+            put: fed.put,
         };
     }
-    let put = put_line(table, known, line.finish(), out, at);
+    let put = put_line(table, known, line.finish(), out, fed.put);
     Fed {
         reading: Reading::fresh(),
         taken: end + 1,
@@ -172,7 +170,7 @@ pub fn feed(table: &[i64], reading: Reading, input: &[u8], out: &mut [u8]) -> Fe
         put: 0,
     };
     while fed.taken < input.len() && out.len() - fed.put >= LONGEST {
-        fed = take_line(table, known, fed.reading, input, fed.taken, out, fed.put);
+        fed = take_line(table, known, fed, input, out);
     }
     fed
 }

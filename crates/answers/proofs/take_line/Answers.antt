@@ -9,7 +9,7 @@ use Rattle.answers.proofs.take_line.Goals as goal
 pub returns-then-end-input : goal.returns-then-end-input
 returns-then-end-input c =
     let a = c.args in
-    took-rest a.table.now a.reading a.input.now a.from a.out.now a.at c.step_line-end.result c.step_line-end.ensures c.requires.byte c.if-end-input.true (omega (arith, c.requires.room))
+    took-rest a.table.now a.fed.reading a.input.now a.fed.taken a.out.now a.fed.put c.step_line-end.result c.step_line-end.ensures c.requires.byte c.if-end-input.true (omega (arith, c.requires.room))
 
 pub returns : goal.returns
 returns c =
@@ -17,7 +17,7 @@ returns c =
     let part = c.step_line-end in
     let line = c.put_line-put in
     let whole = ap (line_answer a.table.now) c.finish.ensures in
-    subst (Taken a.table.now a.reading a.input.now a.from a.out.now line.new.out a.at)
+    subst (Taken a.table.now a.fed.reading a.input.now a.fed.taken a.out.now line.new.out a.fed.put)
     (ap (λ s. record { reading = s; taken = part.result.end + 1; put = line.result }) (sym c.fresh.ensures))
-    (took-line a.table.now a.reading a.input.now a.from a.out.now a.at part.result part.ensures line.new.out line.result c.if-end-input.false
-    (line.ensures.place ∙ ap (λ bytes. a.at + length bytes) whole) (line.ensures.output ∙ ap (written a.out.now a.at) whole) line.ensures.room)
+    (took-line a.table.now a.fed.reading a.input.now a.fed.taken a.out.now a.fed.put part.result part.ensures line.new.out line.result c.if-end-input.false
+    (line.ensures.place ∙ ap (λ bytes. a.fed.put + length bytes) whole) (line.ensures.output ∙ ap (written a.out.now a.fed.put) whole) line.ensures.room)
