@@ -1,10 +1,9 @@
 -- The test of good limits, by the two ends of each variable.
 --   ends-near    of two numbers in order both are in range where the lower is not below it and the higher not above it
---   first-ends   so of a cut between the ends
 --   good-range   where the ends of every variable are good each limit is in range
 --   good-by      then it is left to ask whether the cuts agree
-use mathlib.Core.Path.{◌≡◌, ◌∙◌, ap}
-use mathlib.Core.Bool.{Bool, true, ◌&&◌, and_assoc}
+use mathlib.Core.Path.{◌≡◌}
+use mathlib.Core.Bool.{Bool, true, ◌&&◌}
 use mathlib.Core.List.{List}
 use Prim.Native.Nat.{ℕ, zero, suc, ◌-◌, ◌≤◌, ◌<◌}
 use native.Mathlib.Omega.{arith}
@@ -17,10 +16,10 @@ use Rattle.laws.proofs.Tests.{&&-left, &&-right, &&-both, true-iff, le_z-fact, f
 use Rattle.laws.proofs.LimitLaws.{within-farthest, in-range, lowest-within, highest-within, ends-range}
 use Rattle.limits.specs.Good.{first_good, others_good}
 
-abbrev pub least : ℤ
+abbrev least : ℤ
 least = neg_ℤ (pos farthest_limit)
 
-abbrev pub most : ℤ
+abbrev most : ℤ
 most = pos farthest_limit
 
 from-least : (z : ℤ) → near z ≡ true → le_z least z ≡ true
@@ -59,12 +58,6 @@ module _ (a b : ℤ) (o : Bool) (h : o ≡ true → a ≤ℤ b) where
 
       some : (near a && o && near b) ≡ true → (le_z least a && o && le_z b most) ≡ true
       some e = all_three (from-least a (one (near a) o (near b) e)) (two (near a) o (near b) e) (to-most b (three (near a) o (near b) e))
-
--- of the tests of a cut c between the ends
-pub first-ends : (a c b : ℤ) → (le_z least a && le_z a c && lt_z c b && le_z b most) ≡ (near a && (le_z a c && lt_z c b) && near b)
-first-ends a c b =
-    ap (λ x. x && le_z b most) (and_assoc (le_z least a) (le_z a c) (lt_z c b))
-    ∙ ends-near a b (le_z a c && lt_z c b) (λ e. ≤ℤ-trans (le_z-fact (&&-left (le_z a c) (lt_z c b) e)) (<ℤ-≤ℤ (lt_z-fact (&&-right (le_z a c) (lt_z c b) e))))
 
 -- a number between two that are in range
 between-near : (a c b : ℤ) → near a ≡ true → (le_z a c && lt_z c b) ≡ true → near b ≡ true → nat_abs c ≤ farthest_limit

@@ -57,7 +57,14 @@ impl Limits {
         requires { limits_room ≤ length table.now }
         ensures { (result.model ≡ model) × (result.numbers ≡ take limits_room table.now) }
     {
-        let numbers = *table.first_chunk().unwrap();
+        // by hand: with `first_chunk`, `from_fn` or a `for` a read takes 26 to 35 instructions and 16 bytes of stack more
+        let mut numbers: [i64; LIMITS_ROOM] = [0; LIMITS_ROOM];
+        let mut k: usize = 0;
+        while k < LIMITS_ROOM {
+            let number = table[k];
+            numbers[k] = number;
+            k += 1;
+        }
         Limits { model, numbers }
     }
 
@@ -117,14 +124,17 @@ impl Limits {
         (place - before) / 2
     }
 
-    // Whether the limits of a variable are in range and in order.
+    // Whether the limits of a variable are in range and in order, or the model has no such variable.
     fn variable_good(self, variable: usize) -> bool
         requires { variable < variables_room }
-        ensures { result ≡ variable_good (shape self.model) self.numbers variable }
+        ensures { result ≡ cond (ltb variable (shape self.model).variables) (variable_good (shape self.model) self.numbers variable) true }
     {
+        if variable >= shapes::variables(self.model) {
+            return true;
+        }
         let lowest = self.lowest(variable);
         let highest = self.highest(variable);
-        LEAST <= lowest && lowest <= highest && highest <= MOST
+        (LEAST <= lowest) & (lowest <= highest) & (highest <= MOST)
     }
 
     // The same of variable 0, whose cut leaves it a low and a high piece: it lies between the ends, and is in range with them.
@@ -134,17 +144,20 @@ impl Limits {
         let lowest = self.lowest(0);
         let cut = self.at(CUT);
         let highest = self.highest(0);
-        LEAST <= lowest && lowest <= cut && cut < highest && highest <= MOST
+        (LEAST <= lowest) & (lowest <= cut) & (cut < highest) & (highest <= MOST)
     }
 
     // The same of every variable but the first.
     fn others_good(self) -> bool
         ensures { result ≡ others_good (shape self.model) self.numbers }
     {
-        for variable in 1..VARIABLES_ROOM {
-            if variable < shapes::variables(self.model) && !self.variable_good(variable) {
+        // by hand, and the tests of good limits joined by `&`: with `all`, a `for` or `&&` a read takes as much more as in `of`
+        let mut variable: usize = 1;
+        while variable < VARIABLES_ROOM {
+            if !self.variable_good(variable) {
                 return false;
             }
+            variable += 1;
         }
         true
     }
@@ -159,7 +172,7 @@ impl Limits {
         }
         let from = THOUSAND * self.at(CUT);
         let fine = self.at(FINE_CUT);
-        from <= fine && fine < from + THOUSAND
+        (from <= fine) & (fine < from + THOUSAND)
     }
 
     // Whether the limits of every variable are in range and in order, and the two cuts agree.
