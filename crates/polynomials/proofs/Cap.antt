@@ -2,11 +2,11 @@
 --   against-within, against-passed   what the sum is said to be
 --   within-against, passed-against   what it then is
 --   joint-within, joint-first, joint-second, within-joint, passed-joint   the same of two sums together
---   reach-room, reach-past           a product with a reach, told by the most that it multiplies within the cap
+--   reach-past                       a product with a reach, told by the most that it multiplies within the cap
 use mathlib.Core.Path.{◌≡◌, refl, sym, ap, ap₂, subst}
 use mathlib.Core.Bool.{Bool, true, false, cond, ◌&&◌}
 use Prim.Native.Nat.{ℕ, ◌+◌, ◌*◌, ◌<◌, ◌≤◌}
-use native.Mathlib.Nat.{le-div_iff_mul-le, div-lt_iff_lt-mul}
+use native.Mathlib.Nat.{div-lt_iff_lt-mul}
 use native.Mathlib.Decide.{dec_le}
 use native.Mathlib.Omega.{arith}
 use borrow.Author.Tests.{le-leb, lt-leb}
@@ -73,8 +73,5 @@ module _ (a b : ℕ) where
 
 -- ════ a product with a reach
 module _ {r : Reach} (h : Reached r) (x : ℕ) where
-  pub reach-room : x ≤ r.most → x * r.size ≤ cap
-  reach-room l = (le-div_iff_mul-le {k = r.size} {x = x} {y = cap} h.one).0 (subst (λ m. x ≤ m) h.most-is l)
-
   pub reach-past : r.most < x → cap < x * r.size
   reach-past l = (div-lt_iff_lt-mul {k = r.size} {x = cap} {y = x} h.one).0 (subst (λ m. m < x) h.most-is l)

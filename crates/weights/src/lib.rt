@@ -58,6 +58,7 @@ fn shared(model: Model, table: &[i64], start: usize, reaches: [Reach; REACHES_RO
 
 // Whether every coefficient's weight in both pieces is within the cap, at reaches of the given sizes. It goes over the blocks, the pieces and their
 // terms, a row of these at a time, and leaves at the first block and piece whose weight passes. What the pieces share is weighed once.
+// Document 01 names this form, nested loops over these that are left by a label (docs/TRACE.md): so no chain, and no call of `weight_at` for a piece.
 pub fn within_cap(model: Model, table: &[i64], sizes: [u64; REACHES_ROOM]) -> bool
     requires { Checkable (shape model) table.now sizes }
     ensures { result ≡ within_cap (shape model) table.now (reaches_of sizes) }
