@@ -47,6 +47,14 @@ pub struct Fed {
     pub put: usize,
 }
 
+// A table and its own refusal, which is worked out once for all lines.
+#[derive(Clone, Copy)]
+struct Known<'a> {
+    table: &'a [i64],
+    refused: u64,
+    ghost own: { refused ≡ table_number cumulus table.now },
+}
+
 // Six coefficients, each behind a space, from the place `at` on; gives the place behind them.
 fn put_values(values: [i64; BLOCKS], out: &mut [u8], at: usize) -> usize
     requires { at + longest_values ≤ length out.old }
@@ -73,27 +81,6 @@ fn put_answer(number: u64, values: [i64; BLOCKS], out: &mut [u8], at: usize) -> 
     let end = put_values(values, out, behind);
     out[end] = b'\n';
     end + 1
-}
-
-// The answer of a table, whose own refusal is known, to a line, from the place `at` on; gives the place behind it.
-fn put_line(
-    table: &[i64],
-    refused: u64,
-    line: Option<[i64; VARIABLES]>,
-    out: &mut [u8],
-    at: usize,
-) -> usize
-    requires { (refused ≡ table_number cumulus table.now) × (at + longest ≤ length out.old) }
-    ensures place { result ≡ at + length (line_answer table.now line) }
-    ensures output { out.new ≡ written out.old at (line_answer table.now line) }
-    ensures room { result ≤ at + longest }
-{
-    let mut values = [0i64; BLOCKS];
-    let number = match line {
-        None => MALFORMED,
-        Some(state) => read_known(Model::Cumulus, table, refused, state, &mut values),
-    };
-    put_answer(number, values, out, at)
 }
 
 impl Reading {
@@ -127,24 +114,43 @@ fn step_line(line: State, input: &[u8], from: usize) -> Part
     }
 }
 
-// Takes the input on up to the end of a line, which is answered behind the answers before it, or up to its own end.
-fn take_line(table: &[i64], refused: u64, fed: Fed, input: &[u8], out: &mut [u8]) -> Fed
-    requires { Taking table.now refused input.now fed.taken out.old fed.put }
-    ensures { Taken table.now fed.reading input.now fed.taken out.old out.new fed.put result }
-{
-    let Part { line, end } = step_line(fed.reading.line, input, fed.taken);
-    if end >= input.len() {
-        return Fed {
-            reading: Reading { line, begun: true },
-            taken: end,
-            put: fed.put,
+impl Known<'_> {
+    // The answer to a line, from the place `at` on; gives the place behind it.
+    fn put_line(self, line: Option<[i64; VARIABLES]>, out: &mut [u8], at: usize) -> usize
+        requires { at + longest ≤ length out.old }
+        ensures place { result ≡ at + length (line_answer self.entry.table.now line) }
+        ensures output { out.new ≡ written out.old at (line_answer self.entry.table.now line) }
+        ensures room { result ≤ at + longest }
+    {
+        let mut values = [0i64; BLOCKS];
+        let number = match line {
+            None => MALFORMED,
+            Some(state) => {
+                read_known(Model::Cumulus, self.table, self.refused, state, &mut values)
+            }
         };
+        put_answer(number, values, out, at)
     }
-    let put = put_line(table, refused, line.finish(), out, fed.put);
-    Fed {
-        reading: Reading::fresh(),
-        taken: end + 1,
-        put,
+
+    // Takes the input on up to the end of a line, which is answered behind the answers before it, or up to its own end.
+    fn take_line(self, fed: Fed, input: &[u8], out: &mut [u8]) -> Fed
+        requires { Taking input.now fed.taken out.old fed.put }
+        ensures { Taken self.entry.table.now fed.reading input.now fed.taken out.old out.new fed.put result }
+    {
+        let Part { line, end } = step_line(fed.reading.line, input, fed.taken);
+        if end >= input.len() {
+            return Fed {
+                reading: Reading { line, begun: true },
+                taken: end,
+                put: fed.put,
+            };
+        }
+        let put = self.put_line(line.finish(), out, fed.put);
+        Fed {
+            reading: Reading::fresh(),
+            taken: end + 1,
+            put,
+        }
     }
 }
 
@@ -153,13 +159,14 @@ pub fn feed(table: &[i64], reading: Reading, input: &[u8], out: &mut [u8]) -> Fe
     ensures { Feeding table.now reading input.now out.old out.new result }
 {
     let refused = refusal_of(Model::Cumulus, table);
+    let known = Known { table, refused };
     let mut fed = Fed {
         reading,
         taken: 0,
         put: 0,
     };
     while fed.taken < input.len() && out.len() - fed.put >= LONGEST {
-        fed = take_line(table, refused, fed, input, out);
+        fed = known.take_line(fed, input, out);
     }
     fed
 }
@@ -175,5 +182,5 @@ pub fn finish(table: &[i64], reading: Reading, out: &mut [u8]) -> usize
         return 0;
     }
     let refused = refusal_of(Model::Cumulus, table);
-    put_line(table, refused, reading.line.finish(), out, 0)
+    Known { table, refused }.put_line(reading.line.finish(), out, 0)
 }
