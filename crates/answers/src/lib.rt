@@ -116,10 +116,10 @@ fn step_line(line: State, input: &[u8], from: usize) -> Part
 
 impl Known<'_> {
     // The answer to a line, from the place `at` on; gives the place behind it.
-    fn put_line(self, line: Option<[i64; VARIABLES]>, out: &mut [u8], at: usize) -> usize
+    fn put_line(&self, line: Option<[i64; VARIABLES]>, out: &mut [u8], at: usize) -> usize
         requires { at + longest ≤ length out.old }
-        ensures place { result ≡ at + length (line_answer self.entry.table.now line) }
-        ensures output { out.new ≡ written out.old at (line_answer self.entry.table.now line) }
+        ensures place { result ≡ at + length (line_answer self.now.table.now line) }
+        ensures output { out.new ≡ written out.old at (line_answer self.now.table.now line) }
         ensures room { result ≤ at + longest }
     {
         let mut values = [0i64; BLOCKS];
@@ -133,9 +133,9 @@ impl Known<'_> {
     }
 
     // Takes the input on up to the end of a line, which is answered behind the answers before it, or up to its own end.
-    fn take_line(self, fed: Fed, input: &[u8], out: &mut [u8]) -> Fed
+    fn take_line(&self, fed: Fed, input: &[u8], out: &mut [u8]) -> Fed
         requires { Taking input.now fed.taken out.old fed.put }
-        ensures { Taken self.entry.table.now fed.reading input.now fed.taken out.old out.new fed.put result }
+        ensures { Taken self.now.table.now fed.reading input.now fed.taken out.old out.new fed.put result }
     {
         let Part { line, end } = step_line(fed.reading.line, input, fed.taken);
         if end >= input.len() {

@@ -20,19 +20,19 @@ unfolding line_answer
 answered t e f g = ap₂ numbered f g ∙ ap (line_answer t) (sym e)
 
 pub read_known-number-requires : goal.read_known-number-requires
-read_known-number-requires c = c.args.self.own ∙ into-room cumulus c.args.self.table.now (length zeros) refl
+read_known-number-requires c = c.args.self.now.own ∙ into-room cumulus c.args.self.now.table.now (length zeros) refl
 
 pub put_answer-requires : goal.put_answer-requires
 put_answer-requires c =
     let few : c.match-line.number < 10000 = elim c.match-line.branch [
       | in-None w ↦ omega (arith, w.number-is)
-      | in-Some w ↦ subst (λ n. n < 10000) (sym (w.number-is ∙ w.read_known-number.ensures.number)) (read-few c.args.self.table.now _ zeros)
+      | in-Some w ↦ subst (λ n. n < 10000) (sym (w.number-is ∙ w.read_known-number.ensures.number)) (read-few c.args.self.now.table.now _ zeros)
     ] in
     (few, c.requires)
 
 pub returns : goal.returns
 returns c =
-    let t = c.args.self.table.now in
+    let t = c.args.self.now.table.now in
     let whole : numbered c.match-line.number c.match-line.values ≡ line_answer t c.args.line = elim c.match-line.branch [
       | in-None w ↦ malformed t w.in-None.is w.number-is w.values-is
       | in-Some w ↦ answered t w.in-Some.is (w.number-is ∙ w.read_known-number.ensures.number) (w.values-is ∙ w.read_known-number.ensures.output)
