@@ -1,11 +1,7 @@
 -- What is known of an input after each byte, and what has been written by then. That it ends in what `Answers` says is shown in `proofs/Program`.
-use Rattle.std.specs.Prelude.{◌≡◌, true, false, cond, List, [], ◌∷◌, ◌++◌, ℕ, ◌+◌, ◌-◌, ◌<◌, ◌≤◌, eqb, ltb, ℤ, length, take, drop, get_or, Result}
+use Rattle.std.specs.Prelude.{◌≡◌, true, false, cond, List, [], ◌∷◌, ◌++◌, ℕ, ◌+◌, ◌-◌, ◌<◌, ◌≤◌, eqb, ltb, ℤ, length, take, drop, get_or}
 use Rattle.lines.specs.State.{start, stepped, stepped_by, finished}
 use Rattle.lines.specs.declared.State.{State}
-use Rattle.layout.specs.Shape.{cumulus}
-use Rattle.layout.specs.Refusals.{given_back}
-use Rattle.layout.specs.declared.refusals.Refused.{Refused}
-use Rattle.tables.specs.Ready.{table_number}
 use Rattle.printing.specs.Spell.{written}
 use Rattle.answers.specs.Answers.{line_answer, longest}
 use Rattle.answers.specs.declared.Reading.{Reading}
@@ -55,9 +51,8 @@ pub record LinePart (s : State) (input : List ℕ) (from : ℕ) (p : Part) : Typ
   pub plain : Plain (part input from p.end)
   pub newline : p.end < length input → get_or input p.end 0 ≡ 10
 
--- to take a part that has a byte: the table's own refusal, and room for an answer
-pub record Taking (t : List ℤ) (known : Result (Unit {0}) Refused) (input : List ℕ) (from : ℕ) (out : List ℕ) (at : ℕ) : Type 0 where
-  pub refusal : given_back known ≡ table_number cumulus t
+-- to take a part that has a byte: room for an answer
+pub record Taking (input : List ℕ) (from : ℕ) (out : List ℕ) (at : ℕ) : Type 0 where
   pub byte : from < length input
   pub room : at + longest ≤ length out
 

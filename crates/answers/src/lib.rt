@@ -49,6 +49,14 @@ pub struct Fed {
     pub put: usize,
 }
 
+// A table, and whether it is refused by itself, which is worked out once for all lines.
+#[derive(Clone, Copy)]
+struct Known<'a> {
+    table: &'a [i64],
+    outcome: Result<(), Refused>,
+    ghost own: { given_back outcome ≡ table_number cumulus table.now },
+}
+
 // Six coefficients, each behind a space, from the place `at` on; gives the place behind them.
 fn put_values(values: [i64; BLOCKS], out: &mut [u8], at: usize) -> usize
     requires { at + longest_values ≤ length out.old }
@@ -75,30 +83,6 @@ fn put_answer(number: u64, values: [i64; BLOCKS], out: &mut [u8], at: usize) -> 
     let end = put_values(values, out, behind);
     out[end] = b'\n';
     end + 1
-}
-
-// The answer of a table, of which it is known whether it is refused, to a line, from the place `at` on; gives the place behind it.
-fn put_line(
-    table: &[i64],
-    known: Result<(), Refused>,
-    line: Option<[i64; VARIABLES]>,
-    out: &mut [u8],
-    at: usize,
-) -> usize
-    requires { (given_back known ≡ table_number cumulus table.now) × (at + longest ≤ length out.old) }
-    ensures place { result ≡ at + length (line_answer table.now line) }
-    ensures output { out.new ≡ written out.old at (line_answer table.now line) }
-    ensures room { result ≤ at + longest }
-{
-    let mut values = [0i64; BLOCKS];
-    let number = match line {
-        None => MALFORMED,
-        Some(state) => {
-            let outcome = read_known(Model::Cumulus, table, known, state, &mut values);
-            given_back(outcome)
-        }
-    };
-    put_answer(number, values, out, at)
 }
 
 impl Reading {
@@ -132,30 +116,45 @@ fn step_line(line: State, input: &[u8], from: usize) -> Part
     }
 }
 
-// Takes the input on up to the end of a line, which is answered behind the answers before it, or up to its own end.
-fn take_line(
-    table: &[i64],
-    known: Result<(), Refused>,
-    fed: Fed,
-    input: &[u8],
-    out: &mut [u8],
-) -> Fed
-    requires { Taking table.now known input.now fed.taken out.old fed.put }
-    ensures { Taken table.now fed.reading input.now fed.taken out.old out.new fed.put result }
-{
-    let Part { line, end } = step_line(fed.reading.line, input, fed.taken);
-    if end >= input.len() {
-        return Fed {
-            reading: Reading { line, begun: true },
-            taken: end,
-            put: fed.put,
+impl Known<'_> {
+    // The answer to a line, from the place `at` on; gives the place behind it.
+    fn put_line(&self, line: Option<[i64; VARIABLES]>, out: &mut [u8], at: usize) -> usize
+        requires { at + longest ≤ length out.old }
+        ensures place { result ≡ at + length (line_answer self.now.table.now line) }
+        ensures output { out.new ≡ written out.old at (line_answer self.now.table.now line) }
+        ensures room { result ≤ at + longest }
+    {
+        let mut values = [0i64; BLOCKS];
+        let number = match line {
+            None => MALFORMED,
+            Some(state) => {
+                let outcome =
+                    read_known(Model::Cumulus, self.table, self.outcome, state, &mut values);
+                given_back(outcome)
+            }
         };
+        put_answer(number, values, out, at)
     }
-    let put = put_line(table, known, line.finish(), out, fed.put);
-    Fed {
-        reading: Reading::fresh(),
-        taken: end + 1,
-        put,
+
+    // Takes the input on up to the end of a line, which is answered behind the answers before it, or up to its own end.
+    fn take_line(&self, fed: Fed, input: &[u8], out: &mut [u8]) -> Fed
+        requires { Taking input.now fed.taken out.old fed.put }
+        ensures { Taken self.now.table.now fed.reading input.now fed.taken out.old out.new fed.put result }
+    {
+        let Part { line, end } = step_line(fed.reading.line, input, fed.taken);
+        if end >= input.len() {
+            return Fed {
+                reading: Reading { line, begun: true },
+                taken: end,
+                put: fed.put,
+            };
+        }
+        let put = self.put_line(line.finish(), out, fed.put);
+        Fed {
+            reading: Reading::fresh(),
+            taken: end + 1,
+            put,
+        }
     }
 }
 
@@ -163,14 +162,15 @@ fn take_line(
 pub fn feed(table: &[i64], reading: Reading, input: &[u8], out: &mut [u8]) -> Fed
     ensures { Feeding table.now reading input.now out.old out.new result }
 {
-    let known = refusal_of(Model::Cumulus, table);
+    let outcome = refusal_of(Model::Cumulus, table);
+    let known = Known { table, outcome };
     let mut fed = Fed {
         reading,
         taken: 0,
         put: 0,
     };
     while fed.taken < input.len() && out.len() - fed.put >= LONGEST {
-        fed = take_line(table, known, fed, input, out);
+        fed = known.take_line(fed, input, out);
     }
     fed
 }
@@ -185,6 +185,6 @@ pub fn finish(table: &[i64], reading: Reading, out: &mut [u8]) -> usize
     if out.len() < LONGEST || !reading.begun {
         return 0;
     }
-    let known = refusal_of(Model::Cumulus, table);
-    put_line(table, known, reading.line.finish(), out, 0)
+    let outcome = refusal_of(Model::Cumulus, table);
+    Known { table, outcome }.put_line(reading.line.finish(), out, 0)
 }

@@ -1,6 +1,7 @@
 -- Words that hold several numbers side by side, and their digits as bytes. A mask takes the quotients of all of them out of one product.
 --   hundreds-of-two                            two numbers of four digits divided by a hundred at once
 --   unpacked-packed, four_bytes, eight-bytes   the lowest bytes of a word are those that it was made of
+--   four_below, both_below, side_by_side       words of four and of eight digits fit 64 bits, and so do their products
 --   hundreds-covered, split-pairs              the pairs of eight digits: what is taken away from their fours is there, and leaves the pairs
 --   tens-covered, eight-word                   the word of eight digits from their pairs, in the same way
 use mathlib.Core.Path.{◌≡◌, refl, sym, ap, ap₂, subst, ◌∙◌}
@@ -103,6 +104,16 @@ digits-word n h =
 
 four-covers : (n : ℕ) → 2559 * tens n ≤ 256 * pairs n
 four-covers n = omega arith
+
+-- ════ what fits 64 bits
+four_below : (n : ℕ) → n < 10000 → pairs n < 6553600
+four_below n h = omega arith
+
+both_below : (x y : ℕ) → x < 10000 → y < 10000 → pairs x + 4294967296 * pairs y < 30000000000000000
+both_below x y h l = omega (arith, four_below x h, four_below y l)
+
+side_by_side : (x y : ℕ) → x < 10000 → y < 10000 → ((x + 4294967296 * y) * 5243 < 18446744073709551616) × (65536 * (x + 4294967296 * y) < 18446744073709551616)
+side_by_side x y h l = (omega arith, omega arith)
 
 -- ════ the pairs of eight digits: the numbers of the first four and of the last, side by side, and their hundreds
 abbrev fours : ℕ → ℕ

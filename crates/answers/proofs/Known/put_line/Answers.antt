@@ -6,8 +6,8 @@ use Rattle.layout.specs.Reading.{readings, read_number, read_output}
 use Rattle.tables.proofs.Steps.{into-room}
 use Rattle.answers.specs.Answers.{numbered, zeros, line_answer}
 use Rattle.answers.proofs.Numbers.{read-few}
-use Rattle.answers.proofs.put_line.Goals as goal
-use Rattle.answers.proofs.put_line.Goals.{in-None, in-Some}
+use Rattle.answers.proofs.Known.put_line.Goals as goal
+use Rattle.answers.proofs.Known.put_line.Goals.{in-None, in-Some}
 
 -- what no readings are answered, and what readings are
 malformed : (t : List ℤ) {line : Option (List ℤ)} {number : ℕ} {values : List ℤ} → line ≡ None → number ≡ 31 → values ≡ zeros → numbered number values ≡ line_answer t line
@@ -20,19 +20,19 @@ unfolding line_answer
 answered t e f g = ap₂ numbered f g ∙ ap (line_answer t) (sym e)
 
 pub read_known-outcome-requires : goal.read_known-outcome-requires
-read_known-outcome-requires c = c.requires.0 ∙ into-room cumulus c.args.table.now (length zeros) refl
+read_known-outcome-requires c = c.args.self.now.own ∙ into-room cumulus c.args.self.now.table.now (length zeros) refl
 
 pub put_answer-requires : goal.put_answer-requires
 put_answer-requires c =
     let few : c.match-line.number < 10000 = elim c.match-line.branch [
       | in-None w ↦ omega (arith, w.number-is)
-      | in-Some w ↦ subst (λ n. n < 10000) (sym (w.number-is ∙ w.given_back-number.ensures ∙ w.read_known-outcome.ensures.number)) (read-few c.args.table.now _ zeros)
+      | in-Some w ↦ subst (λ n. n < 10000) (sym (w.number-is ∙ w.given_back-number.ensures ∙ w.read_known-outcome.ensures.number)) (read-few c.args.self.now.table.now _ zeros)
     ] in
-    (few, c.requires.1)
+    (few, c.requires)
 
 pub returns : goal.returns
 returns c =
-    let t = c.args.table.now in
+    let t = c.args.self.now.table.now in
     let whole : numbered c.match-line.number c.match-line.values ≡ line_answer t c.args.line = elim c.match-line.branch [
       | in-None w ↦ malformed t w.in-None.is w.number-is w.values-is
       | in-Some w ↦ answered t w.in-Some.is (w.number-is ∙ w.given_back-number.ensures ∙ w.read_known-outcome.ensures.number) (w.values-is ∙ w.read_known-outcome.ensures.output)
