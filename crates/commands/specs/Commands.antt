@@ -1,6 +1,8 @@
 -- What a line of a script asks for.
-use Rattle.std.specs.Prelude.{Bool, true, false, cond, not, ◌&&◌, List, [], ◌∷◌, ℕ, suc, eqb, ltb, length, get_or, drop}
-use Rattle.words.specs.Words.{words, word_at, same}
+use Rattle.std.specs.Prelude.{Option, Some, None, is_some, Bool, true, false, cond, ◌&&◌, List, [], ◌∷◌, ℕ, eqb, drop, find}
+use Rattle.std.specs.Option.{option_map}
+use Rattle.std.specs.Str.{bytes_eq}
+use Rattle.words.specs.Words.{words, word_at}
 use Rattle.numbers.specs.Numbers.{magnitude, natural_at, signed_at, bits_at}
 use Rattle.numbers.specs.declared.Kind.{Kind}
 use Rattle.numbers.specs.declared.Kind.TheVariants.{Natural, Signed, Bits}
@@ -16,52 +18,36 @@ use Rattle.commands.specs.declared.Keeping.TheVariants as K
 use Rattle.commands.specs.declared.Command.{Command}
 use Rattle.commands.specs.declared.Command.TheVariants as C
 
--- ════ names: a word's place among them, which is their number where it is none of them
-unfoldable pub names : List ℕ
-names = text "publish move read floats microradians many gtm_publish gtm_move gtm_read length set fill copy show sum"
-
-abbrev pub place : List ℕ → List (List ℕ) → ℕ
-place word [] = 0
-place word (w ∷ ws) = cond (same word w) 0 (suc (place word ws))
-
-abbrev pub named : List Name
-named =
-    N.Publish
-    ∷ N.Move
-    ∷ N.Read
-    ∷ N.Floats
-    ∷ N.Microradians
-    ∷ N.Many
-    ∷ N.GtmPublish
-    ∷ N.GtmMove
-    ∷ N.GtmRead
-    ∷ N.Length
-    ∷ N.Set
-    ∷ N.Fill
-    ∷ N.Copy
-    ∷ N.Show
-    ∷ N.Sum
+-- ════ the commands: the first word of a line, its name, and what the words behind it are
+unfoldable pub commands : List (List ℕ × Name × List Kind)
+commands =
+    (text "publish", N.Publish, Natural ∷ [])
+    ∷ (text "move", N.Move, Natural ∷ Natural ∷ Signed ∷ Natural ∷ [])
+    ∷ (text "read", N.Read, Natural ∷ Natural ∷ Signed ∷ Signed ∷ Signed ∷ Signed ∷ Signed ∷ [])
+    ∷ (text "floats", N.Floats, Natural ∷ Bits ∷ Bits ∷ Bits ∷ Bits ∷ Bits ∷ [])
+    ∷ (text "microradians", N.Microradians, Natural ∷ Signed ∷ Signed ∷ Signed ∷ Signed ∷ Signed ∷ [])
+    ∷ (text "many", N.Many, Natural ∷ Natural ∷ Natural ∷ Natural ∷ [])
+    ∷ (text "gtm_publish", N.GtmPublish, Natural ∷ [])
+    ∷ (text "gtm_move", N.GtmMove, Natural ∷ Natural ∷ Signed ∷ Natural ∷ [])
+    ∷ (text "gtm_read", N.GtmRead, Natural ∷ Natural ∷ Signed ∷ Signed ∷ [])
+    ∷ (text "length", N.Length, Natural ∷ Natural ∷ [])
+    ∷ (text "set", N.Set, Natural ∷ Natural ∷ Signed ∷ [])
+    ∷ (text "fill", N.Fill, Natural ∷ Natural ∷ Natural ∷ Natural ∷ Natural ∷ [])
+    ∷ (text "copy", N.Copy, Natural ∷ Natural ∷ [])
+    ∷ (text "show", N.Show, Natural ∷ Natural ∷ Natural ∷ [])
+    ∷ (text "sum", N.Sum, Natural ∷ [])
     ∷ []
 
-abbrev pub name_count : ℕ
-name_count = length named
-
-abbrev pub name_at : ℕ → Name
-name_at p = get_or named p N.Other
-
--- ════ the words behind a name: natural, signed or bits, for each name in the same order
-unfoldable pub kinds : List ℕ
-kinds = text "n nnsn nnsssss nbbbbb nsssss nnnn n nnsn nnss nn nns nnnnn nn nnn n"
-
-abbrev pub kind_of : ℕ → Kind
-kind_of b = cond (eqb b 110) Natural (cond (eqb b 115) Signed Bits)
+-- the name that a word is, and what the words behind it are
+abbrev pub named : List ℕ → Option (Name × List Kind)
+named word = option_map (λ row. (row.1, row.2)) (find (λ row. bytes_eq row.0 word) commands)
 
 -- as many words as kinds, and each a number of its kind
-abbrev pub fit : List (List ℕ) → List ℕ → Bool
+abbrev pub fit : List (List ℕ) → List Kind → Bool
 fit [] [] = true
-fit [] (b ∷ bs) = false
+fit [] (k ∷ ks) = false
 fit (w ∷ ws) [] = false
-fit (w ∷ ws) (b ∷ bs) = (magnitude (kind_of b) w).said && fit ws bs
+fit (w ∷ ws) (k ∷ ks) = is_some (magnitude k w) && fit ws ks
 
 -- ════ what is asked, where they fit
 abbrev pub publish : Model → List ℕ → Command
@@ -98,21 +84,19 @@ asked N.Fill l =
 asked N.Copy l = C.Keeping (K.Copy (natural_at l 1) (natural_at l 2))
 asked N.Show l = C.Keeping (K.Show (natural_at l 1) (natural_at l 2) (natural_at l 3))
 asked N.Sum l = C.Keeping (K.Sum (natural_at l 1))
-asked N.Other l = C.Misused N.Other
 
 -- ════ the line: blank, a comment where the first word starts with `#`, or a command by its first word
 abbrev pub starts_with : ℕ → List ℕ → Bool
 starts_with b [] = false
 starts_with b (c ∷ cs) = eqb c b
 
-abbrev pub place_of : List ℕ → ℕ
-place_of line = place (word_at line 0) (words names)
+abbrev pub by_name : List ℕ → Option (Name × List Kind) → Command
+by_name line None = C.Unknown
+by_name line (Some (name, kinds)) = cond (fit (drop 1 (words line)) kinds) (asked name line) (C.Misused name)
 
-abbrev pub fits : List ℕ → ℕ → Bool
-fits line p = fit (drop 1 (words line)) (word_at kinds p)
+abbrev pub by_word : List ℕ → Option (List ℕ) → Command
+by_word line None = C.Blank
+by_word line (Some word) = cond (starts_with 35 word) C.Comment (by_name line (named word))
 
 abbrev pub command : List ℕ → Command
-command line =
-    cond (not (ltb 0 (length (words line)))) C.Blank
-    (cond (starts_with 35 (word_at line 0)) C.Comment
-    (cond (fits line (place_of line)) (asked (name_at (place_of line)) line) (C.Misused (name_at (place_of line)))))
+command line = by_word line (word_at line 0)

@@ -1,16 +1,17 @@
 // What a line of a script asks for: a command and its numbers.
 #![tactic(auto)]
 
-ghost use Rattle.std.specs.Prelude.{◌≡◌, ◌≤◌, ◌<◌, length, drop};
-ghost use Rattle.std.proofs.Math.Seq.{slice};
-ghost use Rattle.words.specs.Words.{words, word_at};
-ghost use Rattle.commands.specs.Commands.{name_count, place, place_of, name_at, kind_of, fit, fits, publish, move_zero, read, cumulus_state, gtm_state, asked, starts_with, command};
+ghost use Rattle.std.specs.Prelude.{◌≡◌, drop};
+ghost use Rattle.std.specs.Option.{option_map};
+ghost use Rattle.words.specs.Words.{words};
+ghost use Rattle.commands.specs.Commands.{named, fit, publish, move_zero, read, cumulus_state, gtm_state, asked, command};
 
 use layout::Model;
-use numbers::{Kind, bits_at, is_number, natural_at, signed_at};
-use words::{has_word, same_word, word_at};
+use numbers::Kind::{self, Bits, Natural, Signed};
+use numbers::{bits_at, is_number, natural_at, signed_at};
+use words::{has_word, word_at};
 
-// The commands by their names, and what is none.
+// The commands by their names.
 #[derive(Clone, Copy)]
 pub enum Name {
     Publish,
@@ -28,7 +29,6 @@ pub enum Name {
     Copy,
     Show,
     Sum,
-    Other,
 }
 
 // A reading of each variable of a model.
@@ -127,143 +127,106 @@ pub enum Keeping {
 pub enum Command {
     Blank,
     Comment,
-    Misused { name: Name },
-    Operation { operation: Operation },
-    Keeping { keeping: Keeping },
+    Unknown,
+    Misused(Name),
+    Operation(Operation),
+    Keeping(Keeping),
 }
 
-// How many names there are.
-const NAMES: usize = 15;
+// The commands: the first word of a line, its name, and what the words behind it are.
+const COMMANDS: [(&[u8], Name, &[Kind]); 15] = [
+    (b"publish", Name::Publish, &[Natural]),
+    (b"move", Name::Move, &[Natural, Natural, Signed, Natural]),
+    (
+        b"read",
+        Name::Read,
+        &[Natural, Natural, Signed, Signed, Signed, Signed, Signed],
+    ),
+    (
+        b"floats",
+        Name::Floats,
+        &[Natural, Bits, Bits, Bits, Bits, Bits],
+    ),
+    (
+        b"microradians",
+        Name::Microradians,
+        &[Natural, Signed, Signed, Signed, Signed, Signed],
+    ),
+    (b"many", Name::Many, &[Natural, Natural, Natural, Natural]),
+    (b"gtm_publish", Name::GtmPublish, &[Natural]),
+    (
+        b"gtm_move",
+        Name::GtmMove,
+        &[Natural, Natural, Signed, Natural],
+    ),
+    (
+        b"gtm_read",
+        Name::GtmRead,
+        &[Natural, Natural, Signed, Signed],
+    ),
+    (b"length", Name::Length, &[Natural, Natural]),
+    (b"set", Name::Set, &[Natural, Natural, Signed]),
+    (
+        b"fill",
+        Name::Fill,
+        &[Natural, Natural, Natural, Natural, Natural],
+    ),
+    (b"copy", Name::Copy, &[Natural, Natural]),
+    (b"show", Name::Show, &[Natural, Natural, Natural]),
+    (b"sum", Name::Sum, &[Natural]),
+];
 
-// The place of the first word of a line among names.
-fn place_in(line: &[u8], names: &[u8]) -> usize
-    requires { length (words names.now) ≡ name_count }
-    ensures { result ≡ place (word_at line.now 0) (words names.now) }
+// The name that a word is, and what the words behind it are.
+fn named(word: &[u8]) -> Option<(Name, &'static [Kind])>
+    ensures { option_map (λ row. (row.0, row.1.now)) result ≡ named word.now }
 {
-    let mut k: usize = 0;
-    while k < NAMES {
-        if same_word(line, 0, names, k) {
-            return k;
-        }
-        k += 1;
-    }
-    k
-}
-
-fn place_of(line: &[u8]) -> usize
-    ensures { result ≡ place_of line.now }
-{
-    place_in(
-        line,
-        b"publish move read floats microradians many gtm_publish gtm_move gtm_read length set fill copy show sum",
-    )
-}
-
-fn kind_of(byte: u8) -> Kind
-    ensures { result ≡ kind_of byte }
-{
-    if byte == b'n' {
-        return Kind::Natural;
-    }
-    if byte == b's' {
-        return Kind::Signed;
-    }
-    Kind::Bits
+    COMMANDS
+        .iter()
+        .find(|row| row.0 == word)
+        .map(|row| (row.1, row.2))
 }
 
 // Whether the words behind the first are as many as the kinds, and each is a number of its kind.
-fn fit(line: &[u8], kinds: &[u8], mut at: usize, end: usize) -> bool
-    requires { end ≤ length kinds.now }
-    ensures { result ≡ fit (drop 1 (words line.now)) (slice at end kinds.now) }
+fn fit(line: &[u8], kinds: &[Kind]) -> bool
+    ensures { result ≡ fit (drop 1 (words line.now)) kinds.now }
 {
-    let mut k: usize = 1;
-    while at < end {
-        if !is_number(line, k, kind_of(kinds[at])) {
-            return false;
-        }
-        at += 1;
-        k += 1;
-    }
-    !has_word(line, k)
-}
-
-fn fits_in(line: &[u8], kinds: &[u8], place: usize) -> bool
-    ensures { result ≡ fit (drop 1 (words line.now)) (word_at kinds.now place) }
-{
-    let word = word_at(kinds, place);
-    fit(line, kinds, word.start, word.end)
-}
-
-// Whether the words of a line are those of the command at a place.
-fn fits(line: &[u8], place: usize) -> bool
-    ensures { result ≡ fits line.now place }
-{
-    fits_in(
-        line,
-        b"n nnsn nnsssss nbbbbb nsssss nnnn n nnsn nnss nn nns nnnnn nn nnn n",
-        place,
-    )
-}
-
-fn name_at(place: usize) -> Name
-    ensures { result ≡ name_at place }
-{
-    match place {
-        0 => Name::Publish,
-        1 => Name::Move,
-        2 => Name::Read,
-        3 => Name::Floats,
-        4 => Name::Microradians,
-        5 => Name::Many,
-        6 => Name::GtmPublish,
-        7 => Name::GtmMove,
-        8 => Name::GtmRead,
-        9 => Name::Length,
-        10 => Name::Set,
-        11 => Name::Fill,
-        12 => Name::Copy,
-        13 => Name::Show,
-        14 => Name::Sum,
-        _ => Name::Other,
-    }
+    kinds
+        .iter()
+        .enumerate()
+        .all(|(k, kind)| is_number(line, k + 1, *kind))
+        && !has_word(line, kinds.len() + 1)
 }
 
 // What each name asks for, from the words behind it.
 fn publish(line: &[u8], model: Model) -> Command
     ensures { result ≡ publish model line.now }
 {
-    Command::Operation {
-        operation: Operation::Publish {
-            model: model,
-            into: natural_at(line, 1),
-        },
-    }
+    Command::Operation(Operation::Publish {
+        model,
+        into: natural_at(line, 1),
+    })
 }
 
 fn move_zero(line: &[u8], model: Model) -> Command
     ensures { result ≡ move_zero model line.now }
 {
-    Command::Operation {
-        operation: Operation::Move {
-            model: model,
-            space: natural_at(line, 1),
-            variable: natural_at(line, 2),
-            shift: signed_at(line, 3),
-            into: natural_at(line, 4),
-        },
-    }
+    Command::Operation(Operation::Move {
+        model,
+        space: natural_at(line, 1),
+        variable: natural_at(line, 2),
+        shift: signed_at(line, 3),
+        into: natural_at(line, 4),
+    })
 }
 
 fn read(line: &[u8], state: State) -> Command
     ensures { result ≡ read state line.now }
 {
-    Command::Operation {
-        operation: Operation::Read {
-            space: natural_at(line, 1),
-            room: natural_at(line, 2),
-            state: state,
-        },
-    }
+    Command::Operation(Operation::Read {
+        space: natural_at(line, 1),
+        room: natural_at(line, 2),
+        state,
+    })
 }
 
 fn cumulus_state(line: &[u8]) -> State
@@ -290,114 +253,96 @@ fn gtm_state(line: &[u8]) -> State
 fn floats(line: &[u8]) -> Command
     ensures { result ≡ asked Name.Floats line.now }
 {
-    Command::Operation {
-        operation: Operation::Floats {
-            space: natural_at(line, 1),
-            alpha: bits_at(line, 2),
-            beta: bits_at(line, 3),
-            xi: bits_at(line, 4),
-            eta: bits_at(line, 5),
-            zeta: bits_at(line, 6),
-        },
-    }
+    Command::Operation(Operation::Floats {
+        space: natural_at(line, 1),
+        alpha: bits_at(line, 2),
+        beta: bits_at(line, 3),
+        xi: bits_at(line, 4),
+        eta: bits_at(line, 5),
+        zeta: bits_at(line, 6),
+    })
 }
 
 fn microradians(line: &[u8]) -> Command
     ensures { result ≡ asked Name.Microradians line.now }
 {
-    Command::Operation {
-        operation: Operation::Microradians {
-            room: natural_at(line, 1),
-            alpha: signed_at(line, 2),
-            beta: signed_at(line, 3),
-            xi: signed_at(line, 4),
-            eta: signed_at(line, 5),
-            zeta: signed_at(line, 6),
-        },
-    }
+    Command::Operation(Operation::Microradians {
+        room: natural_at(line, 1),
+        alpha: signed_at(line, 2),
+        beta: signed_at(line, 3),
+        xi: signed_at(line, 4),
+        eta: signed_at(line, 5),
+        zeta: signed_at(line, 6),
+    })
 }
 
 fn many(line: &[u8]) -> Command
     ensures { result ≡ asked Name.Many line.now }
 {
-    Command::Operation {
-        operation: Operation::Many {
-            space: natural_at(line, 1),
-            states: natural_at(line, 2),
-            count: natural_at(line, 3),
-            into: natural_at(line, 4),
-        },
-    }
+    Command::Operation(Operation::Many {
+        space: natural_at(line, 1),
+        states: natural_at(line, 2),
+        count: natural_at(line, 3),
+        into: natural_at(line, 4),
+    })
 }
 
 fn length(line: &[u8]) -> Command
     ensures { result ≡ asked Name.Length line.now }
 {
-    Command::Keeping {
-        keeping: Keeping::Length {
-            space: natural_at(line, 1),
-            count: natural_at(line, 2),
-        },
-    }
+    Command::Keeping(Keeping::Length {
+        space: natural_at(line, 1),
+        count: natural_at(line, 2),
+    })
 }
 
 fn set(line: &[u8]) -> Command
     ensures { result ≡ asked Name.Set line.now }
 {
-    Command::Keeping {
-        keeping: Keeping::Set {
-            space: natural_at(line, 1),
-            place: natural_at(line, 2),
-            number: signed_at(line, 3),
-        },
-    }
+    Command::Keeping(Keeping::Set {
+        space: natural_at(line, 1),
+        place: natural_at(line, 2),
+        number: signed_at(line, 3),
+    })
 }
 
 fn fill(line: &[u8]) -> Command
     ensures { result ≡ asked Name.Fill line.now }
 {
-    Command::Keeping {
-        keeping: Keeping::Fill {
-            space: natural_at(line, 1),
-            place: natural_at(line, 2),
-            step: natural_at(line, 3),
-            size: natural_at(line, 4),
-            seed: natural_at(line, 5),
-        },
-    }
+    Command::Keeping(Keeping::Fill {
+        space: natural_at(line, 1),
+        place: natural_at(line, 2),
+        step: natural_at(line, 3),
+        size: natural_at(line, 4),
+        seed: natural_at(line, 5),
+    })
 }
 
 fn copy(line: &[u8]) -> Command
     ensures { result ≡ asked Name.Copy line.now }
 {
-    Command::Keeping {
-        keeping: Keeping::Copy {
-            space: natural_at(line, 1),
-            into: natural_at(line, 2),
-        },
-    }
+    Command::Keeping(Keeping::Copy {
+        space: natural_at(line, 1),
+        into: natural_at(line, 2),
+    })
 }
 
 fn show(line: &[u8]) -> Command
     ensures { result ≡ asked Name.Show line.now }
 {
-    Command::Keeping {
-        keeping: Keeping::Show {
-            space: natural_at(line, 1),
-            place: natural_at(line, 2),
-            count: natural_at(line, 3),
-        },
-    }
+    Command::Keeping(Keeping::Show {
+        space: natural_at(line, 1),
+        place: natural_at(line, 2),
+        count: natural_at(line, 3),
+    })
 }
 
 fn sum(line: &[u8]) -> Command
     ensures { result ≡ asked Name.Sum line.now }
 {
-    Command::Keeping {
-        keeping: Keeping::Sum {
-            space: natural_at(line, 1),
-        },
-    }
+    Command::Keeping(Keeping::Sum {
+        space: natural_at(line, 1),
+    })
 }
 
 // What a command whose words fit asks for.
@@ -420,33 +365,24 @@ fn asked(line: &[u8], name: Name) -> Command
         Name::Copy => copy(line),
         Name::Show => show(line),
         Name::Sum => sum(line),
-        Name::Other => Command::Misused { name: Name::Other },
     }
-}
-
-// Whether the first word, which is there, starts with `#`.
-fn is_comment(line: &[u8]) -> bool
-    requires { 0 < length (words line.now) }
-    ensures { result ≡ starts_with 35 (word_at line.now 0) }
-{
-    let start = word_at(line, 0).start;
-    line[start] == b'#'
 }
 
 // What a line asks for.
 pub fn command_of(line: &[u8]) -> Command
     ensures { result ≡ command line.now }
 {
-    if !has_word(line, 0) {
+    let Some(first) = word_at(line, 0) else {
         return Command::Blank;
-    }
-    if is_comment(line) {
+    };
+    if first.starts_with(b"#") {
         return Command::Comment;
     }
-    let place = place_of(line);
-    let name = name_at(place);
-    if fits(line, place) {
-        return asked(line, name);
+    let Some((name, kinds)) = named(first) else {
+        return Command::Unknown;
+    };
+    if !fit(line, kinds) {
+        return Command::Misused(name);
     }
-    Command::Misused { name: name }
+    asked(line, name)
 }

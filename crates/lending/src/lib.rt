@@ -2,179 +2,132 @@
 // of an answer are compared with those that the second program works out; proved is that everything stays within its room.
 #![tactic(auto)]
 
+ghost use Rattle.std.specs.Prelude.{◌≤◌};
+ghost use Rattle.spaces.specs.Sizes.{space_room};
+
 use layout::refusals::DONE;
-use spaces::drawing::{checksum, signed};
-use spaces::rooms::{ALL, ROOM, length_of, start_of};
-use texts::{OUT, least, put_byte, put_named, put_natural, put_numbers, put_text};
+use spaces::drawing::checksum;
+use spaces::rooms::{ROOM, Space};
+use texts::Answers;
 
-pub const MARGIN: usize = 8;
+const MARGIN: usize = 8;
 
-pub const LENT: usize = MARGIN + ROOM + MARGIN;
+const LENT: usize = MARGIN + ROOM + MARGIN;
 
-const PATTERN: i64 = 1234567890123456789;
-
-pub fn fresh() -> [i64; LENT] {
-    [PATTERN; LENT]
+// The numbers that a room may be lent for, each with its pattern.
+pub trait Number: Copy + PartialEq {
+    const PATTERN: Self;
 }
 
-// A room for the numbers that states are given.
-pub fn fresh_numbers() -> [u64; LENT] {
-    [PATTERN as u64; LENT]
+impl Number for i64 {
+    const PATTERN: i64 = 1234567890123456789;
 }
 
-// Such a room with the same bits as signed numbers, so that both kinds of rooms are looked at by the same functions.
-fn signed_room(numbers: &[u64; LENT]) -> [i64; LENT] {
-    let mut room = fresh();
-    let mut k: usize = 0;
-    while k < LENT {
-        room[k] = signed(numbers[k]);
-        k += 1;
-    }
-    room
+impl Number for u64 {
+    const PATTERN: u64 = 1234567890123456789;
 }
 
-// Whether nothing has changed from one place up to another.
-fn is_untouched(lent: &[i64; LENT], from: usize, end: usize) -> bool {
-    let stop = least(end, LENT);
-    let mut k = from;
-    while k < stop {
-        if lent[k] != PATTERN {
-            return false;
+// A room that is no Vec, since there is no heap.
+#[derive(Drop)]
+pub struct Lent<T> {
+    numbers: [T; LENT],
+    length: usize,
+    ghost fits: { length ≤ space_room },
+}
+
+impl<T: Number> Lent<T> {
+    // A room for so many numbers, but no more than a space has.
+    pub fn new(length: usize) -> Lent<T> {
+        Lent {
+            numbers: [T::PATTERN; LENT],
+            length: length.min(ROOM),
         }
-        k += 1;
     }
-    true
-}
 
-// Whether the numbers of a room are as they were, and whether its sides are.
-#[derive(Clone, Copy)]
-struct Left {
-    within: bool,
-    sides: bool,
-}
-
-// What is left of a room that ends at a place.
-fn left_of(lent: &[i64; LENT], end: usize) -> Left {
-    Left {
-        within: is_untouched(lent, MARGIN, end),
-        sides: is_untouched(lent, 0, MARGIN) & is_untouched(lent, end, LENT),
+    // What is lent. Its end is taken first, since nothing may be read of the struct once a part of it is lent out.
+    pub fn part(&mut self) -> &mut [T] {
+        let end = MARGIN + self.length;
+        let numbers = &mut self.numbers;
+        let all = &mut numbers[..];
+        &mut all[MARGIN..end]
     }
-}
 
-fn left_of_both(a: Left, b: Left) -> Left {
-    Left {
-        within: a.within & b.within,
-        sides: a.sides & b.sides,
+    pub fn written(&self) -> &[T] {
+        let all = &self.numbers[..];
+        &all[MARGIN..MARGIN + self.length]
+    }
+
+    fn is_untouched(&self) -> bool {
+        is_pattern(self.written())
+    }
+
+    fn is_kept(&self) -> bool {
+        let all = &self.numbers[..];
+        is_pattern(&all[..MARGIN]) && is_pattern(&all[MARGIN + self.length..])
     }
 }
 
-fn put_touched(left: Left, out: &mut [u8; OUT], at: usize) -> usize {
-    if left.within {
-        return put_text(b" untouched", out, at);
-    }
-    put_text(b" touched", out, at)
+fn is_pattern<T: Number>(numbers: &[T]) -> bool {
+    numbers.iter().all(|number| *number == T::PATTERN)
 }
 
-fn put_sides(left: Left, out: &mut [u8; OUT], at: usize) -> usize {
-    if left.sides {
-        return at;
-    }
-    put_text(b" outside", out, at)
+fn put_refused(number: u64, is_untouched: bool, out: &mut Answers) {
+    let touched = if is_untouched { "untouched" } else { "touched" };
+    out.put(format_args!("{number} {touched}"));
 }
 
-fn put_refused(number: u64, left: Left, out: &mut [u8; OUT], at: usize) -> usize {
-    let refused = put_natural(number, out, at);
-    let next = put_touched(left, out, refused);
-    put_sides(left, out, next)
-}
-
-// Takes what was written over into a space.
-fn store(lent: &[i64; LENT], into: u64, spaces: &mut [i64; ALL]) {
-    let start = start_of(into);
-    let mut k: usize = 0;
-    while k < ROOM {
-        spaces[start + k] = lent[MARGIN + k];
-        k += 1;
+fn put_sides(is_kept: bool, out: &mut Answers) {
+    if !is_kept {
+        out.put(" outside");
     }
 }
 
 // Takes what was written over into its space, and says how much it is.
-fn put_wrote(
-    lent: &[i64; LENT],
-    into: u64,
-    spaces: &mut [i64; ALL],
-    out: &mut [u8; OUT],
-    at: usize,
-) -> usize {
-    store(lent, into, spaces);
-    let count = length_of(into, spaces);
-    let wrote = put_named(b"0 wrote ", count as u64, out, at);
-    let sum = checksum(lent, MARGIN, MARGIN + count);
-    put_named(b" sum ", sum, out, wrote)
+fn put_wrote(lent: &Lent<i64>, into: &mut Space, out: &mut Answers) {
+    into.write(lent.written());
+    let numbers = into.numbers();
+    let count = numbers.len();
+    let sum = checksum(numbers);
+    out.put(format_args!("0 wrote {count} sum {sum}"));
 }
 
 // What is said of a written table.
-pub fn settle(
-    number: u64,
-    lent: &[i64; LENT],
-    into: u64,
-    spaces: &mut [i64; ALL],
-    out: &mut [u8; OUT],
-    at: usize,
-) -> usize {
-    let left = left_of(lent, MARGIN + length_of(into, spaces));
-    if number != DONE {
-        return put_refused(number, left, out, at);
+pub fn settle(number: u64, lent: &Lent<i64>, into: &mut Space, out: &mut Answers) {
+    if number == DONE {
+        put_wrote(lent, into, out);
+    } else {
+        put_refused(number, lent.is_untouched(), out);
     }
-    let next = put_wrote(lent, into, spaces, out, at);
-    put_sides(left, out, next)
+    put_sides(lent.is_kept(), out);
 }
 
-// Which number each state was given.
-fn put_gave(given: &[i64; LENT], end: usize, out: &mut [u8; OUT], at: usize) -> usize {
-    let gave = put_text(b" gave", out, at);
-    if end == MARGIN {
-        return gave;
-    }
-    let next = put_byte(b' ', out, gave);
-    put_numbers(given, MARGIN, end, out, next)
-}
-
-// What is said of many states: what each was given, in a room that ends at a place, and the values that were written.
+// What is said of many states: what each was given, and the values that were written.
 pub fn settle_many(
     number: u64,
-    numbers: &[u64; LENT],
-    end: usize,
-    lent: &[i64; LENT],
-    into: u64,
-    spaces: &mut [i64; ALL],
-    out: &mut [u8; OUT],
-    at: usize,
-) -> usize {
-    let given = signed_room(numbers);
-    let written = left_of(lent, MARGIN + length_of(into, spaces));
-    let left = left_of_both(left_of(&given, end), written);
-    if number != DONE {
-        return put_refused(number, left, out, at);
+    given: &Lent<u64>,
+    lent: &Lent<i64>,
+    into: &mut Space,
+    out: &mut Answers,
+) {
+    if number == DONE {
+        put_wrote(lent, into, out);
+        out.put(" gave");
+        for number in given.written() {
+            out.put(format_args!(" {number}"));
+        }
+    } else {
+        put_refused(number, given.is_untouched() && lent.is_untouched(), out);
     }
-    let wrote = put_wrote(lent, into, spaces, out, at);
-    let next = put_gave(&given, end, out, wrote);
-    put_sides(left, out, next)
+    put_sides(given.is_kept() && lent.is_kept(), out);
 }
 
 // What is said of values that were read.
-pub fn put_read(
-    number: u64,
-    lent: &[i64; LENT],
-    end: usize,
-    out: &mut [u8; OUT],
-    at: usize,
-) -> usize {
-    let left = left_of(lent, end);
-    if number != DONE {
-        return put_refused(number, left, out, at);
+pub fn put_read(number: u64, lent: &Lent<i64>, out: &mut Answers) {
+    if number == DONE {
+        out.put("0 ");
+        out.put_numbers(lent.written());
+    } else {
+        put_refused(number, lent.is_untouched(), out);
     }
-    let done = put_text(b"0 ", out, at);
-    let next = put_numbers(lent, MARGIN, end, out, done);
-    put_sides(left, out, next)
+    put_sides(lent.is_kept(), out);
 }

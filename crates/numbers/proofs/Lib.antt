@@ -1,2 +1,3 @@
 pub mod Controls
 pub mod Reading
+pub mod Signs

@@ -1,41 +1,31 @@
-// The operations of the library on tables in spaces: whether there are such spaces, and which one is asked for.
+// The operations of the library on tables in spaces: which one is asked for, and of which spaces.
 #![tactic(auto)]
 
 use commands::Operation;
 use readings::{read, read_floats, read_microradians};
-use spaces::reasons::no_space;
-use spaces::rooms::{ALL, SPACES, larger};
-use texts::OUT;
+use spaces::reasons::Reason;
+use spaces::rooms::Spaces;
+use texts::Answers;
 use writings::{move_zero, publish, read_many};
 
-// The largest space of an operation; the first where it takes none.
-fn last_space(operation: Operation) -> u64 {
+// A table may be moved or read into its own space, so it is copied first.
+pub fn operate(operation: Operation, spaces: &mut Spaces, out: &mut Answers) -> Result<(), Reason> {
     match operation {
-        Operation::Publish { into, .. } => into,
-        Operation::Move { space, into, .. } => larger(space, into),
-        Operation::Read { space, .. } => space,
-        Operation::Floats { space, .. } => space,
-        Operation::Microradians { .. } => 0,
-        Operation::Many {
-            space,
-            states,
-            into,
-            ..
-        } => larger(larger(space, states), into),
-    }
-}
-
-fn work(operation: Operation, spaces: &mut [i64; ALL], out: &mut [u8; OUT], at: usize) -> usize {
-    match operation {
-        Operation::Publish { model, into } => publish(model, into, spaces, out, at),
+        Operation::Publish { model, into } => publish(model, spaces.get_mut(into)?, out),
         Operation::Move {
             model,
             space,
             variable,
             shift,
             into,
-        } => move_zero(model, space, variable, shift, into, spaces, out, at),
-        Operation::Read { space, room, state } => read(space, room, state, spaces, out, at),
+        } => {
+            let table = *spaces.get(space)?;
+            let into = spaces.get_mut(into)?;
+            move_zero(model, table.numbers(), variable, shift, into, out);
+        }
+        Operation::Read { space, room, state } => {
+            read(spaces.get(space)?.numbers(), room, state, out)?
+        }
         Operation::Floats {
             space,
             alpha,
@@ -43,7 +33,10 @@ fn work(operation: Operation, spaces: &mut [i64; ALL], out: &mut [u8; OUT], at: 
             xi,
             eta,
             zeta,
-        } => { read_floats(space, [alpha, beta, xi, eta, zeta], spaces, out, at) }
+        } => {
+            let table = spaces.get(space)?.numbers();
+            read_floats(table, [alpha, beta, xi, eta, zeta], out);
+        }
         Operation::Microradians {
             room,
             alpha,
@@ -51,24 +44,18 @@ fn work(operation: Operation, spaces: &mut [i64; ALL], out: &mut [u8; OUT], at: 
             xi,
             eta,
             zeta,
-        } => { read_microradians(room, [alpha, beta, xi, eta, zeta], out, at) }
+        } => read_microradians(room, [alpha, beta, xi, eta, zeta], out)?,
         Operation::Many {
             space,
             states,
             count,
             into,
-        } => read_many(space, states, count, into, spaces, out, at),
+        } => {
+            let table = *spaces.get(space)?;
+            let states = *spaces.get(states)?;
+            let into = spaces.get_mut(into)?;
+            read_many(table.numbers(), states.numbers(), count, into, out)?;
+        }
     }
-}
-
-pub fn operate(
-    operation: Operation,
-    spaces: &mut [i64; ALL],
-    out: &mut [u8; OUT],
-    at: usize,
-) -> usize {
-    if last_space(operation) >= SPACES as u64 {
-        return no_space(out, at);
-    }
-    work(operation, spaces, out, at)
+    Ok(())
 }

@@ -5,11 +5,11 @@
 
 use commands::State;
 use layout::cumulus_one::VARIABLES;
-use lending::{MARGIN, fresh, put_read};
+use lending::{Lent, put_read};
 use patterns::{floats_of, put_answer};
-use spaces::reasons::no_room;
-use spaces::rooms::{ALL, ROOM, numbers_of};
-use texts::OUT;
+use spaces::reasons::Reason;
+use spaces::rooms::ROOM;
+use texts::Answers;
 
 // What the library reads, by the model of the state.
 fn read_table(table: &[i64], state: State, out: &mut [i64]) -> u64 {
@@ -25,48 +25,31 @@ fn read_table(table: &[i64], state: State, out: &mut [i64]) -> u64 {
     }
 }
 
-pub fn read(
-    space: u64,
-    room: u64,
-    state: State,
-    spaces: &[i64; ALL],
-    out: &mut [u8; OUT],
-    at: usize,
-) -> usize {
+fn lend(room: u64) -> Result<Lent<i64>, Reason> {
     if room > ROOM as u64 {
-        return no_room(out, at);
+        return Err(Reason::NoRoom);
     }
-    let mut lent = fresh();
-    let from = MARGIN;
-    let end = from + room as usize;
-    let table = numbers_of(space, spaces);
-    let number = read_table(table, state, &mut lent[from..end]);
-    put_read(number, &lent, end, out, at)
+    Ok(Lent::new(room as usize))
+}
+
+pub fn read(table: &[i64], room: u64, state: State, out: &mut Answers) -> Result<(), Reason> {
+    let mut lent = lend(room)?;
+    let number = read_table(table, state, lent.part());
+    put_read(number, &lent, out);
+    Ok(())
 }
 
 pub fn read_microradians(
     room: u64,
     readings: [i64; VARIABLES],
-    out: &mut [u8; OUT],
-    at: usize,
-) -> usize {
-    if room > ROOM as u64 {
-        return no_room(out, at);
-    }
-    let mut lent = fresh();
-    let from = MARGIN;
-    let end = from + room as usize;
-    let number = microradians::read(readings, &mut lent[from..end]);
-    put_read(number, &lent, end, out, at)
+    out: &mut Answers,
+) -> Result<(), Reason> {
+    let mut lent = lend(room)?;
+    let number = microradians::read(readings, lent.part());
+    put_read(number, &lent, out);
+    Ok(())
 }
 
-pub fn read_floats(
-    space: u64,
-    readings: [u64; VARIABLES],
-    spaces: &[i64; ALL],
-    out: &mut [u8; OUT],
-    at: usize,
-) -> usize {
-    let answer = door::read_floats(numbers_of(space, spaces), floats_of(readings));
-    put_answer(answer, out, at)
+pub fn read_floats(table: &[i64], readings: [u64; VARIABLES], out: &mut Answers) {
+    put_answer(door::read_floats(table, floats_of(readings)), out);
 }

@@ -4,54 +4,38 @@
 
 mod uses;
 
-ghost use Rattle.std.specs.Prelude.{◌≤◌};
-ghost use Rattle.texts.specs.Room.{answers_room};
-
 use commands::{Command, command_of};
 use operations::operate;
 use spaces::keeping::keep;
-use spaces::rooms::{ALL, ROOM};
-use texts::{LINE, OUT, put_byte, put_text};
-use uses::put_use;
+use spaces::reasons::Reason;
+use spaces::rooms::{ROOM, Spaces};
+use texts::{Answers, Line};
+use uses::usage;
 
 // The most bytes of an answer: the numbers of a space, each with a minus, 19 digits and what parts it from the next.
 pub const LONGEST: usize = ROOM * 21;
 
-fn obey(line: &[u8], spaces: &mut [i64; ALL], out: &mut [u8; OUT], at: usize) -> usize {
-    let command = command_of(line);
-    match command {
-        Command::Blank => at,
-        Command::Comment => put_text(line, out, at),
-        Command::Misused { name } => put_use(name, out, at),
-        Command::Operation { operation } => operate(operation, spaces, out, at),
-        Command::Keeping { keeping } => keep(keeping, spaces, out, at),
+fn obey(line: &[u8], spaces: &mut Spaces, out: &mut Answers) -> Result<(), Reason> {
+    match command_of(line) {
+        Command::Blank => {}
+        Command::Comment => out.put_text(line),
+        Command::Unknown => out.put("? no such command"),
+        Command::Misused(name) => out.put_text(usage(name)),
+        Command::Operation(operation) => operate(operation, spaces, out)?,
+        Command::Keeping(keeping) => keep(keeping, spaces, out)?,
     }
-}
-
-fn answered(
-    line: &[u8],
-    held: usize,
-    spaces: &mut [i64; ALL],
-    out: &mut [u8; OUT],
-    at: usize,
-) -> usize {
-    if held > line.len() {
-        return put_text(b"? a line has at most 256 bytes", out, at);
-    }
-    let from = 0;
-    obey(&line[from..held], spaces, out, at)
+    Ok(())
 }
 
 // Answers a line with a line.
-pub fn answer(
-    line: &[u8; LINE],
-    held: usize,
-    spaces: &mut [i64; ALL],
-    out: &mut [u8; OUT],
-    at: usize,
-) -> usize
-    ensures { result ≤ answers_room }
-{
-    let end = answered(line, held, spaces, out, at);
-    put_byte(b'\n', out, end)
+pub fn answer(line: &Line, spaces: &mut Spaces, out: &mut Answers) {
+    match line.text() {
+        Some(text) => {
+            if let Err(reason) = obey(text, spaces, out) {
+                out.put(reason);
+            }
+        }
+        None => out.put("? a line has at most 256 bytes"),
+    }
+    out.put("\n");
 }

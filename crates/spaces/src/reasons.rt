@@ -1,14 +1,20 @@
 // Why a command is not obeyed.
-use texts::{OUT, put_text};
+use std::fmt;
+use std::fmt::{Display, Formatter, Write};
 
-pub fn no_space(out: &mut [u8; OUT], at: usize) -> usize {
-    put_text(b"? the spaces are 0 to 9", out, at)
+#[derive(Clone, Copy)]
+pub enum Reason {
+    NoSpace,
+    NoRoom,
+    NoPlace,
 }
 
-pub fn no_room(out: &mut [u8; OUT], at: usize) -> usize {
-    put_text(b"? there is room for 320 numbers", out, at)
-}
-
-pub fn no_place(out: &mut [u8; OUT], at: usize) -> usize {
-    put_text(b"? no such place", out, at)
+impl Display for Reason {
+    fn fmt<W: Write>(&self, f: &mut Formatter<W>) -> fmt::Result {
+        f.write_str(match self {
+            Reason::NoSpace => "? the spaces are 0 to 9",
+            Reason::NoRoom => "? there is room for 320 numbers",
+            Reason::NoPlace => "? no such place",
+        })
+    }
 }

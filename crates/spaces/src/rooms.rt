@@ -1,59 +1,96 @@
-// The spaces, one behind the other: each is its length and room for its numbers.
-ghost use Rattle.std.specs.Prelude.{◌+◌, ◌≤◌};
-ghost use Rattle.spaces.specs.Sizes.{all_spaces, space_room};
+// The spaces: each is a room for numbers, of which the first ones are its numbers. The room is no Vec, since there is no heap.
+ghost use Rattle.std.specs.Prelude.{◌<◌, ◌≤◌, MatchResult, length};
+ghost use Rattle.spaces.specs.Sizes.{space_room};
 
-use texts::least;
+use super::drawing::draw;
+use super::reasons::Reason;
 
 pub const SPACES: usize = 10;
 
 pub const ROOM: usize = 320;
 
-pub const SPACE: usize = 1 + ROOM;
-
-pub const ALL: usize = SPACES * SPACE;
-
-// Where the length of a space stands; its numbers stand behind it.
-pub fn place_of(space: u64) -> usize
-    ensures { result + (1 + space_room) ≤ all_spaces }
-{
-    least(space as usize, SPACES - 1) * SPACE
+#[derive(Clone, Copy)]
+pub struct Space {
+    room: [i64; ROOM],
+    length: usize,
+    ghost fits: { length ≤ space_room },
 }
 
-pub fn length_of(space: u64, spaces: &[i64; ALL]) -> usize
-    ensures { result ≤ space_room }
-{
-    let length = spaces[place_of(space)];
-    least(whole::magnitude(length) as usize, ROOM)
-}
+impl Space {
+    // A space of zeros, no longer than its room.
+    pub fn new(length: usize) -> Space {
+        Space {
+            room: [0; ROOM],
+            length: length.min(ROOM),
+        }
+    }
 
-// Where the numbers of a space start.
-pub fn start_of(space: u64) -> usize
-    ensures { result + space_room ≤ all_spaces }
-{
-    place_of(space) + 1
-}
+    pub fn numbers(&self) -> &[i64]
+        ensures { length result.now ≤ space_room }
+    {
+        &self.room[..self.length]
+    }
 
-pub fn numbers_of(space: u64, spaces: &[i64; ALL]) -> &[i64] {
-    let all = &spaces[..];
-    let first = start_of(space);
-    let last = first + length_of(space, spaces);
-    &all[first..last]
-}
+    pub fn set(&mut self, place: u64, number: i64) -> Result<(), Reason> {
+        if place as usize >= self.length {
+            return Err(Reason::NoPlace);
+        }
+        self.room[place as usize] = number;
+        Ok(())
+    }
 
-// Makes one space what another is.
-pub fn copy_space(space: u64, into: u64, spaces: &mut [i64; ALL]) {
-    let from = place_of(space);
-    let to = place_of(into);
-    let mut k: usize = 0;
-    while k < SPACE {
-        spaces[to + k] = spaces[from + k];
-        k += 1;
+    // Draws numbers from a place on.
+    pub fn fill(&mut self, place: u64, step: u64, size: u64, seed: u64) -> Result<(), Reason> {
+        let from = place as usize;
+        if from >= self.length {
+            return Err(Reason::NoPlace);
+        }
+        draw(&mut self.room[from..self.length], step as usize, size, seed);
+        Ok(())
+    }
+
+    // Its numbers become those, as many as it has room for.
+    pub fn write(&mut self, numbers: &[i64]) {
+        let count = numbers.len().min(ROOM);
+        // The 0 is needed: with `..count` the borrow checker has no rule for a field beside an invariant.
+        self.room[0..count].copy_from_slice(&numbers[..count]);
+        self.length = count;
+    }
+
+    // New numbers are 0.
+    pub fn set_length(&mut self, count: u64) -> Result<(), Reason>
+        ensures { MatchResult result (λ _. count ≤ space_room) (λ _. space_room < count) }
+    {
+        if count > ROOM as u64 {
+            return Err(Reason::NoRoom);
+        }
+        self.room[self.length..].fill(0);
+        self.length = count as usize;
+        Ok(())
     }
 }
 
-pub fn larger(a: u64, b: u64) -> u64 {
-    if a < b {
-        return b;
+#[derive(Drop)]
+pub struct Spaces {
+    all: [Space; SPACES],
+}
+
+impl Spaces {
+    pub fn new(length: usize) -> Spaces {
+        Spaces {
+            all: [Space::new(length); SPACES],
+        }
     }
-    a
+
+    pub fn get(&self, space: u64) -> Result<&Space, Reason>
+        ensures { MatchResult result (λ _. space < SPACES) (λ _. SPACES ≤ space) }
+    {
+        self.all.get(space as usize).ok_or(Reason::NoSpace)
+    }
+
+    pub fn get_mut(&mut self, space: u64) -> Result<&mut Space, Reason>
+        ensures { MatchResult result (λ _. space < SPACES) (λ _. SPACES ≤ space) }
+    {
+        self.all.get_mut(space as usize).ok_or(Reason::NoSpace)
+    }
 }

@@ -1,10 +1,14 @@
-// Texts in rooms of a fixed size: the bytes of a line as they come, and the parts of an answer, each written from a place on. Each part
-// gives the place behind it, and what has no room is cut off.
+// Texts in rooms of a fixed size: the bytes of a line as they come, and the answers, each written behind the one before. What has no room is
+// cut off.
 #![tactic(auto)]
 
-ghost use Rattle.std.specs.Prelude.{◌≡◌, ◌≤◌, min};
-ghost use Rattle.texts.specs.Held.{held_after, line_after};
+ghost use Rattle.std.specs.Prelude.{◌≡◌, ◌≤◌, ◌<◌, ◌+◌, ◌++◌, ◌↔◌, IsTrue, List, MatchOption, [], ℕ, length, take};
+ghost use Rattle.texts.specs.Held.{held_after, line_after, longest_line};
 ghost use Rattle.texts.specs.Room.{answers_room};
+
+use std::fmt;
+use std::fmt::{Display, Write};
+use std::marker::Model;
 
 // The room for answers.
 pub const OUT: usize = 65536;
@@ -12,115 +16,129 @@ pub const OUT: usize = 65536;
 // The most bytes of a line.
 pub const LINE: usize = 256;
 
-// One byte more of a line; gives how many are held, one more than there is room for where the line is too long.
-pub fn hold(byte: u8, line: &mut [u8; LINE], held: usize) -> usize
-    ensures value { result ≡ held_after held }
-    ensures line_after { line.new ≡ line_after line.old held byte }
-{
-    if held >= LINE {
-        return LINE + 1;
+// The first bytes of a line and how many are held: one more than there is room for where the line is too long. The room is no Vec, since
+// there is no heap.
+#[derive(Drop)]
+pub struct Line {
+    pub bytes: [u8; LINE],
+    pub held: usize,
+}
+
+impl Line {
+    pub fn new() -> Line
+        ensures { result.held ≡ 0 }
+    {
+        Line {
+            bytes: [0; LINE],
+            held: 0,
+        }
     }
-    line[held] = byte;
-    held + 1
-}
 
-pub fn least(a: usize, b: usize) -> usize
-    ensures { result ≡ min a b }
-{
-    if a < b {
-        return a;
+    // One byte more.
+    pub fn hold(&mut self, byte: u8)
+        ensures value { self.new.held ≡ held_after self.old.held }
+        ensures line_after { self.new.bytes ≡ line_after self.old.bytes self.old.held byte }
+    {
+        if self.held >= LINE {
+            self.held = LINE + 1;
+            return;
+        }
+        self.bytes[self.held] = byte;
+        self.held += 1;
     }
-    b
-}
 
-pub fn put_text(text: &[u8], out: &mut [u8; OUT], at: usize) -> usize
-    ensures { result ≤ answers_room }
-{
-    let start = least(at, OUT);
-    let count = least(text.len(), OUT - start);
-    let mut k: usize = 0;
-    while k < count {
-        out[start + k] = text[k];
-        k += 1;
+    pub fn clear(&mut self)
+        ensures { self.new.held ≡ 0 }
+    {
+        self.held = 0;
     }
-    start + count
-}
 
-pub fn put_byte(byte: u8, out: &mut [u8; OUT], at: usize) -> usize
-    ensures { result ≤ answers_room }
-{
-    if at >= OUT {
-        return OUT;
+    pub fn is_empty(&self) -> bool
+        ensures { IsTrue result ↔ self.now.held ≡ 0 }
+    {
+        self.held == 0
     }
-    out[at] = byte;
-    at + 1
-}
 
-pub fn put_natural(n: u64, out: &mut [u8; OUT], at: usize) -> usize
-    ensures { result ≤ answers_room }
-{
-    let mut digits = [0u8; 20];
-    let count = io::decimal(n, &mut digits);
-    put_text(&digits[..count], out, at)
-}
-
-fn put_signed(x: i64, out: &mut [u8; OUT], at: usize) -> usize
-    ensures { result ≤ answers_room }
-{
-    let size = whole::magnitude(x);
-    if x < 0 {
-        let next = put_byte(b'-', out, at);
-        return put_natural(size, out, next);
+    // What the line says, where it is not too long.
+    pub fn text(&self) -> Option<&[u8]>
+        ensures { MatchOption result (longest_line < self.now.held) (λ text. text.now ≡ take self.now.held self.now.bytes) }
+    {
+        self.bytes.get(..self.held)
     }
-    put_natural(size, out, at)
 }
 
-// A natural number behind a text.
-pub fn put_named(text: &[u8], n: u64, out: &mut [u8; OUT], at: usize) -> usize
-    ensures { result ≤ answers_room }
-{
-    let next = put_text(text, out, at);
-    put_natural(n, out, next)
-}
-
-// A space and a bit pattern.
-pub fn put_bits(pattern: u64, out: &mut [u8; OUT], at: usize) -> usize
-    ensures { result ≤ answers_room }
-{
-    let mut digits = [0u8; 16];
-    let count = io::hex(pattern, 1, &mut digits);
-    let next = put_byte(b' ', out, at);
-    put_text(&digits[..count], out, next)
-}
-
-// A number, and a space before it where it is not the first.
-fn put_number(x: i64, is_first: bool, out: &mut [u8; OUT], at: usize) -> usize
-    ensures { result ≤ answers_room }
-{
-    if is_first {
-        return put_signed(x, out, at);
-    }
-    let next = put_byte(b' ', out, at);
-    put_signed(x, out, next)
-}
-
-// The numbers from one place up to another, parted by spaces.
-pub fn put_numbers(
-    numbers: &[i64],
-    from: usize,
+// The answers that are not written out yet. Their room is no Vec, since there is no heap.
+#[derive(Drop)]
+pub struct Answers {
+    bytes: [u8; OUT],
     end: usize,
-    out: &mut [u8; OUT],
-    at: usize,
-) -> usize
-    ensures { result ≤ answers_room }
-{
-    let stop = least(end, numbers.len());
-    let mut put = least(at, OUT);
-    let mut k = from;
-    while k < stop {
-        let number = numbers[k];
-        put = put_number(number, k == from, out, put);
-        k += 1;
+}
+
+impl Model for Answers {
+    ghost Value = { List ℕ };
+
+    ghost view = { λ a. take a.end a.bytes };
+
+    ghost invariant = { λ a. a.end ≤ answers_room };
+}
+
+impl Answers {
+    pub fn new() -> Answers
+        ensures { result ≡ [] }
+    {
+        Answers {
+            bytes: [0; OUT],
+            end: 0,
+        }
     }
-    put
+
+    pub fn clear(&mut self)
+        ensures { self.new ≡ [] }
+    {
+        self.end = 0;
+    }
+
+    pub fn room(&self) -> usize
+        ensures { result + length self.now ≡ answers_room }
+    {
+        OUT - self.end
+    }
+
+    pub fn written(&self) -> &[u8]
+        ensures { result.now ≡ self.now }
+    {
+        &self.bytes[..self.end]
+    }
+
+    pub fn put_text(&mut self, text: &[u8])
+        ensures { self.new ≡ take answers_room (self.old ++ text.now) }
+    {
+        let count = text.len().min(OUT - self.end);
+        self.bytes[self.end..self.end + count].copy_from_slice(&text[..count]);
+        self.end += count;
+    }
+
+    // Nothing is said of the bytes: a value's own printing may break off.
+    pub fn put<D: Display + Drop>(&mut self, value: D) {
+        let _ = write!(self, "{value}");
+    }
+
+    // Numbers, parted by spaces.
+    pub fn put_numbers<D: Display + Copy>(&mut self, numbers: &[D]) {
+        for (k, number) in numbers.iter().enumerate() {
+            if k > 0 {
+                self.put(" ");
+            }
+            self.put(*number);
+        }
+    }
+}
+
+impl Write for Answers {
+    ghost write_str_gives = { λ before text after. after ≡ take answers_room (before ++ text) };
+
+    fn write_str(&mut self, text: &str) -> fmt::Result {
+        self.put_text(text.as_bytes());
+        Ok(())
+    }
 }

@@ -1,6 +1,5 @@
 -- Facts that would fail if a definition said something else: words read by hand.
-use mathlib.Core.Path.{◌≡◌, refl}
-use mathlib.Core.List.{[], ◌∷◌, map}
+use Rattle.std.proofs.Common.{◌≡◌, refl, [], ◌∷◌, map, Some, None}
 use Rattle.words.specs.Text.{text}
 use Rattle.words.specs.Words.{words, word_at}
 
@@ -10,6 +9,6 @@ words-read : map words (map text ("" ∷ "   " ∷ "a" ∷ "  sum   9 " ∷ "a\t
 unfolding words
 words-read = refl
 
-words-by-place : map (word_at (text " set 0 -7")) (0 ∷ 2 ∷ 3 ∷ []) ≡ text "set" ∷ text "-7" ∷ [] ∷ []
+words-by-place : map (word_at (text " set 0 -7")) (0 ∷ 2 ∷ 3 ∷ []) ≡ Some (text "set") ∷ Some (text "-7") ∷ None ∷ []
 unfolding words
 words-by-place = refl

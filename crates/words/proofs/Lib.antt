@@ -1,3 +1,2 @@
 pub mod Controls
-pub mod Runs
-pub mod Slices
+pub mod Parts

@@ -3,10 +3,10 @@
 #![tactic(auto)]
 
 use layout::Model;
-use lending::{MARGIN, fresh, fresh_numbers, settle, settle_many};
-use spaces::reasons::no_room;
-use spaces::rooms::{ALL, ROOM, length_of, numbers_of};
-use texts::OUT;
+use lending::{Lent, settle, settle_many};
+use spaces::reasons::Reason;
+use spaces::rooms::{ROOM, Space};
+use texts::Answers;
 
 // What the library writes, by its model.
 fn publish_table(model: Model, out: &mut [i64]) -> u64 {
@@ -23,63 +23,39 @@ fn move_table(model: Model, table: &[i64], variable: usize, shift: i64, out: &mu
     }
 }
 
-pub fn publish(
-    model: Model,
-    into: u64,
-    spaces: &mut [i64; ALL],
-    out: &mut [u8; OUT],
-    at: usize,
-) -> usize {
-    let mut lent = fresh();
-    let from = MARGIN;
-    let end = from + length_of(into, spaces);
-    let number = publish_table(model, &mut lent[from..end]);
-    settle(number, &lent, into, spaces, out, at)
+pub fn publish(model: Model, into: &mut Space, out: &mut Answers) {
+    let mut lent = Lent::new(into.numbers().len());
+    let number = publish_table(model, lent.part());
+    settle(number, &lent, into, out);
 }
 
 pub fn move_zero(
     model: Model,
-    space: u64,
+    table: &[i64],
     variable: u64,
     shift: i64,
-    into: u64,
-    spaces: &mut [i64; ALL],
-    out: &mut [u8; OUT],
-    at: usize,
-) -> usize {
-    let mut lent = fresh();
-    let from = MARGIN;
-    let end = from + length_of(into, spaces);
-    let table = numbers_of(space, spaces);
-    let number = move_table(model, table, variable as usize, shift, &mut lent[from..end]);
-    settle(number, &lent, into, spaces, out, at)
+    into: &mut Space,
+    out: &mut Answers,
+) {
+    let mut lent = Lent::new(into.numbers().len());
+    let number = move_table(model, table, variable as usize, shift, lent.part());
+    settle(number, &lent, into, out);
 }
 
-// The table and the states are the numbers of their spaces; there is room for what so many states are given.
+// There is room for what so many states are given.
 pub fn read_many(
-    space: u64,
-    states: u64,
+    table: &[i64],
+    states: &[i64],
     count: u64,
-    into: u64,
-    spaces: &mut [i64; ALL],
-    out: &mut [u8; OUT],
-    at: usize,
-) -> usize {
+    into: &mut Space,
+    out: &mut Answers,
+) -> Result<(), Reason> {
     if count > ROOM as u64 {
-        return no_room(out, at);
+        return Err(Reason::NoRoom);
     }
-    let mut numbers = fresh_numbers();
-    let mut lent = fresh();
-    let from = MARGIN;
-    let last = from + count as usize;
-    let end = from + length_of(into, spaces);
-    let table = numbers_of(space, spaces);
-    let listed = numbers_of(states, spaces);
-    let number = cumulus::read_many(
-        table,
-        listed,
-        &mut numbers[from..last],
-        &mut lent[from..end],
-    );
-    settle_many(number, &numbers, last, &lent, into, spaces, out, at)
+    let mut given = Lent::new(count as usize);
+    let mut lent = Lent::new(into.numbers().len());
+    let number = cumulus::read_many(table, states, given.part(), lent.part());
+    settle_many(number, &given, &lent, into, out);
+    Ok(())
 }
