@@ -5,8 +5,8 @@ use layout::cumulus_one::TABLE;
 use scripts::LONGEST;
 use spaces::rooms::Spaces;
 use std::io;
-use std::io::{ErrorKind, Read, Write};
-use streams::Fault;
+use std::io::Write;
+use streams::Answering;
 use texts::{Answers, Line};
 
 #[derive(Drop)]
@@ -41,7 +41,9 @@ impl Desk {
         self.line.clear();
         Ok(())
     }
+}
 
+impl Answering for Desk {
     fn take_piece<W: Write>(&mut self, piece: &[u8], to: &mut W) -> io::Result<()> {
         for byte in piece {
             if *byte == b'\n' {
@@ -63,27 +65,9 @@ impl Desk {
     }
 }
 
-// Up to the end of the input. A proved loop has to end, so it has a number of turns that no run uses up.
-fn run<R: Read, W: Write>(
-    desk: &mut Desk,
-    buf: &mut [u8],
-    input: &mut R,
-    to: &mut W,
-) -> Result<(), Fault> {
-    for _ in 0..u64::MAX {
-        let n = streams::read(input, buf).map_err(Fault::Unread)?;
-        if n == 0 {
-            return desk.finish(to).map_err(Fault::Unwritten);
-        }
-        desk.take_piece(&buf[..n], to).map_err(Fault::Unwritten)?;
-    }
-    Err(Fault::Unread(io::Error::from(ErrorKind::TimedOut)))
-}
-
 fn main(rt: HostRuntime) {
     let mut desk = Desk::new();
-    let mut buf = [0u8; 65536];
-    let end = run(&mut desk, &mut buf, &mut rt.stdin(), &mut rt.stdout());
+    let end = streams::run(&mut desk, &mut rt.stdin(), &mut rt.stdout());
     streams::tell(
         &mut rt.stderr(),
         end,

@@ -2,7 +2,8 @@
 // waits until a stream is ready, so before the next try the processor is left to whoever else wants it.
 #![tactic(auto)]
 
-ghost use Rattle.std.specs.Prelude.{◌≡◌, IfErr, false, length};
+ghost use Rattle.std.specs.Prelude.{◌≡◌, ℕ, List, ⊤, IfErr, OnOk, false, length};
+ghost use Rattle.std.specs.Io.KnownBytes.{IsAtEnd};
 ghost use Rattle.std.specs.IoError.{error_kind};
 ghost use Rattle.streams.specs.Outcomes.{outcome_of, passes, Got, Put, Took, Gave, GaveAll};
 
@@ -39,7 +40,8 @@ pub fn read<R: Read>(from: &mut R, buf: &mut [u8]) -> io::Result<usize>
     Err(io::Error::from(ErrorKind::TimedOut))
 }
 
-// Writes some of buf's first bytes, or fails.
+// Writes some of buf's first bytes, or fails. The loop is that of `read` with another call: one over a closure would have to say in its
+// contract what any closure's calls leave behind, which is longer than the loop.
 fn write_some<W: Write>(to: &mut W, buf: &[u8]) -> io::Result<usize>
     ensures count { Got (length buf.now) result }
     ensures bytes { Gave (W.contents to.old) (W.contents to.new) buf.now result }
@@ -76,6 +78,42 @@ pub fn write<W: Write>(to: &mut W, buf: &[u8]) -> io::Result<usize>
 pub enum Fault {
     Unread(io::Error),
     Unwritten(io::Error),
+}
+
+// What answers an input: it takes one piece after the other, of any size, and is told where the input ends. What it writes goes to
+// the stream that it is given; it stops where that fails.
+pub trait Answering {
+    // What taking these bytes makes of it.
+    ghost takes: { Self → List ℕ → Self → Type 0 } = { λ _ _ _. ⊤ };
+
+    fn take_piece<W: Write>(&mut self, piece: &[u8], to: &mut W) -> io::Result<()>
+        ensures { OnOk result (takes self.old piece.now self.new) };
+
+    fn finish<W: Write>(&mut self, to: &mut W) -> io::Result<()>;
+}
+
+// How many bytes are read at once.
+const PIECE: usize = 65536;
+
+// Hands the whole input on. The loop has a number of turns that no run uses up, as in `read`.
+pub fn run<A: Answering, R: Read, W: Write>(
+    answering: &mut A,
+    from: &mut R,
+    to: &mut W,
+) -> Result<(), Fault>
+    ensures { OnOk result (IsAtEnd (R.remaining from.new)) }
+{
+    let mut buf = [0u8; PIECE];
+    for _ in 0..u64::MAX {
+        let got = read(from, &mut buf).map_err(Fault::Unread)?;
+        if got == 0 {
+            return answering.finish(to).map_err(Fault::Unwritten);
+        }
+        answering
+            .take_piece(&buf[..got], to)
+            .map_err(Fault::Unwritten)?;
+    }
+    Err(Fault::Unread(io::Error::from(ErrorKind::TimedOut)))
 }
 
 // Says in one line, to standard error as it is called, what could not be done, and why, in the system's words.

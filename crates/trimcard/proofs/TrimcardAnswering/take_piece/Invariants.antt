@@ -1,7 +1,7 @@
--- `answer_piece`: what is left of the piece is read on from the reading, and each turn takes some of it.
+-- `take_piece`: what is left of the piece is read on from the reading, and each turn takes some of it.
 use Rattle.std.proofs.Common.{◌≡◌, length}
 use Rattle.answers.specs.Reading.{readings_after}
-use Rattle.trimcard.proofs.Program.answer_piece.Given as goal
+use Rattle.trimcard.proofs.TrimcardAnswering.take_piece.Given as goal
 
 abbrev pub invariant-loop-rest : goal.invariant-loop-rest
 invariant-loop-rest g l = readings_after l.self.reading l.rest ≡ readings_after l.initial.self.reading l.piece

@@ -1,9 +1,9 @@
--- `answer_piece` meets its contract: what a turn leaves of the rest is read on from the reading that it gives.
+-- `take_piece` meets its contract: what a turn leaves of the rest is read on from the reading that it gives.
 use Rattle.std.proofs.Common.{◌∙◌, ap, sym, take, drop, take-append-drop}
 use Rattle.std.proofs.lemmas.List.{take_rest}
 use Rattle.answers.specs.Reading.{readings_after}
 use Rattle.answers.proofs.Program.{readings-append}
-use Rattle.trimcard.proofs.Program.answer_piece.Goals as goal
+use Rattle.trimcard.proofs.TrimcardAnswering.take_piece.Goals as goal
 
 pub loop-rest-preserved : goal.loop-rest-preserved
 loop-rest-preserved g c =
