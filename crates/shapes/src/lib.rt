@@ -10,44 +10,42 @@ ghost use Rattle.layout.specs.Refusals.{place, refusal_number, outside};
 use layout::refusals::{Angle, Refused};
 use layout::{Kind, Model, cumulus_one, gtm_longitudinal};
 
+// A constant of a model's tables, which both models have by the same name.
+macro_rules! of_model {
+    ($model:expr, $name:ident) => {
+        match $model {
+            Model::Cumulus => cumulus_one::$name,
+            Model::Gtm => gtm_longitudinal::$name,
+        }
+    };
+}
+
 // How many variables there are.
 pub fn variables(model: Model) -> usize
     ensures { result ≡ (shape model).variables }
 {
-    match model {
-        Model::Cumulus => cumulus_one::VARIABLES,
-        Model::Gtm => gtm_longitudinal::VARIABLES,
-    }
+    of_model!(model, VARIABLES)
 }
 
 // How many blocks a table has.
 pub fn blocks(model: Model) -> usize
     ensures { result ≡ (shape model).blocks }
 {
-    match model {
-        Model::Cumulus => cumulus_one::BLOCKS,
-        Model::Gtm => gtm_longitudinal::BLOCKS,
-    }
+    of_model!(model, BLOCKS)
 }
 
 // How many groups a block has.
 pub fn groups(model: Model) -> usize
     ensures { result ≡ length (shape model).kinds }
 {
-    match model {
-        Model::Cumulus => cumulus_one::GROUPS,
-        Model::Gtm => gtm_longitudinal::GROUPS,
-    }
+    of_model!(model, GROUPS)
 }
 
 // How many fine cuts variable 0 has: one, or none.
 pub fn fine_cuts(model: Model) -> usize
     ensures { result ≡ fine_cuts (shape model) }
 {
-    match model {
-        Model::Cumulus => cumulus_one::FINE_CUTS,
-        Model::Gtm => gtm_longitudinal::FINE_CUTS,
-    }
+    of_model!(model, FINE_CUTS)
 }
 
 // Whether it has one.
@@ -61,30 +59,21 @@ pub fn has_fine_cut(model: Model) -> bool
 pub fn limits(model: Model) -> usize
     ensures { result ≡ limits_length (shape model) }
 {
-    match model {
-        Model::Cumulus => cumulus_one::LIMITS,
-        Model::Gtm => gtm_longitudinal::LIMITS,
-    }
+    of_model!(model, LIMITS)
 }
 
 // How many numbers a block has.
 pub fn block(model: Model) -> usize
     ensures { result ≡ block_length (shape model) }
 {
-    match model {
-        Model::Cumulus => cumulus_one::BLOCK,
-        Model::Gtm => gtm_longitudinal::BLOCK,
-    }
+    of_model!(model, BLOCK)
 }
 
 // How many numbers a table has.
 pub fn table(model: Model) -> usize
     ensures { result ≡ table_length (shape model) }
 {
-    match model {
-        Model::Cumulus => cumulus_one::TABLE,
-        Model::Gtm => gtm_longitudinal::TABLE,
-    }
+    of_model!(model, TABLE)
 }
 
 // Where a block starts.
