@@ -23,7 +23,7 @@ const LONGEST_VALUES: usize = BLOCKS * (1 + LONGEST_NUMBER);
 // And a whole answer: the number given back, the coefficients and the newline.
 pub const LONGEST: usize = LONGEST_NUMBER + LONGEST_VALUES + 1;
 
-// The number given back for a line that is no five numbers.
+// The number given back for a line that is no five numbers, by which no operation refuses.
 const MALFORMED: u64 = 31;
 
 // What is known of the input from its bytes so far: the line that has not ended, and whether it has a byte. This is no Option, since `feed` and
@@ -128,8 +128,13 @@ impl Known<'_> {
         let number = match line {
             None => MALFORMED,
             Some(state) => {
-                let outcome =
-                    read_known(Model::Cumulus, self.table, self.outcome, state, &mut values);
+                let outcome = read_known(
+                    Model::Cumulus,
+                    self.table,
+                    self.outcome,
+                    state,
+                    &mut values,
+                );
                 given_back(outcome)
             }
         };

@@ -12,12 +12,9 @@ ghost use Rattle.layout.specs.Reading.{readings};
 ghost use Rattle.layout.specs.Moving.{moved_block};
 ghost use Rattle.blocks.specs.Ready.{between, placed, GroupAt, Valued, ShiftableGroup, Between, Shiftable};
 
-use layout::{Kind, Model};
+use layout::{Kind, Model, PIECES};
 use polynomials::Variable;
 use shifting::Rows;
-
-// Low and high, each with a group of its own, which come first in a block.
-const PIECES: usize = 2;
 
 // The value of the group of a kind that starts at a place of a table, at a state. Out of line it makes a read a quarter longer, and past
 // the stack that README.md promises.

@@ -1,4 +1,5 @@
-// The operations for hosts that hold tables as numbers. The crate clochecloak_c exports each to C, under its name here.
+// The operations for hosts that hold tables as numbers. The crate clochecloak_c exports each to C, under its name here: so a refusal is given back
+// as its number, and each model has functions of its own.
 #![tactic(auto)]
 
 ghost use Rattle.std.specs.Prelude.{◌≡◌, [], ◌∷◌};

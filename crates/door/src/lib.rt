@@ -16,10 +16,10 @@ ghost use Rattle.blocks.specs.Ready.{Valued};
 ghost use Rattle.door.specs.Steps.{positive_zero, whole_in, is_not_finite, steps_of, Refuses, number_given, back_given};
 ghost use Rattle.door.specs.Door.{floats, step_at, steps_number, reading_for, answer_with, refused_with, door_answer};
 
-use layout::Model;
 use layout::cumulus_one::{BLOCKS, VARIABLES};
 use layout::refusals::{DONE, Refused};
-use limits::{HIGH, LOW, Limits};
+use layout::{HIGH, LOW, Model};
+use limits::Limits;
 use rounding::Unread;
 use tables::reading::write_values;
 use tables::soundness::refusal_of;

@@ -1,4 +1,4 @@
-// The published table of the GTM's longitudinal model.
+// The published table of the GTM's longitudinal model. Each operation is the one over models, with the contract of C's function.
 #![tactic(auto)]
 
 ghost use Rattle.std.specs.Prelude.{◌≡◌};
@@ -111,7 +111,12 @@ pub fn read(table: &[i64], state: [i64; VARIABLES], out: &mut [i64]) -> Result<(
 
 // Writes the table with the zero of one variable, alpha (0) or eta (1), moved by `shift` into `out`, or refuses and leaves `out` as it was. The moved
 // table answers at a reading less `shift` what this one answers at the reading.
-pub fn move_datum(table: &[i64], variable: usize, shift: i64, out: &mut [i64]) -> Result<(), Refused>
+pub fn move_datum(
+    table: &[i64],
+    variable: usize,
+    shift: i64,
+    out: &mut [i64],
+) -> Result<(), Refused>
     ensures number { given_back result ≡ move_number gtm table.now variable shift out.old }
     ensures output { out.new ≡ move_output gtm table.now variable shift out.old }
 {

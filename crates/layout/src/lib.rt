@@ -13,6 +13,14 @@ pub const LIMITS_ROOM: usize = cumulus_one::LIMITS;
 // Of variable 0 a reach for each piece, and one of each other variable.
 pub const REACHES_ROOM: usize = 1 + VARIABLES_ROOM;
 
+// The pieces of variable 0, each with a group of its own, which come first in a block. A piece stays a number: it is the place of its group and
+// of its reach, and the loop that the requirement names for weights goes over the pieces.
+pub const LOW: usize = 0;
+
+pub const HIGH: usize = 1;
+
+pub const PIECES: usize = 2;
+
 // The models whose tables there are.
 #[derive(Clone, Copy)]
 pub enum Model {

@@ -16,7 +16,7 @@ ghost use Rattle.layout.specs.Moving.{owner, shift_at, moved_limit};
 ghost use Rattle.limits.specs.Good.{variable_good, first_good, others_good};
 
 use layout::refusals::Refused;
-use layout::{LIMITS_ROOM, Model, REACHES_ROOM, VARIABLES_ROOM};
+use layout::{HIGH, LIMITS_ROOM, LOW, Model, REACHES_ROOM, VARIABLES_ROOM};
 use std::array;
 
 // The greatest limit that is in range, and the least.
@@ -32,12 +32,8 @@ const FINE_CUT: usize = 3;
 // How many thousandths a whole one has.
 const THOUSAND: i64 = 1000;
 
-// The pieces, as they are counted.
-pub const LOW: usize = 0;
-
-pub const HIGH: usize = 1;
-
-// The first numbers of a model's table, as many as any model has limits: its own come first.
+// The first numbers of a model's table, as many as any model has limits: its own come first. What its methods ask, limits in range or good, stays in
+// their clauses: each asks only what it needs, and a type of good limits would ask more of who wants a reach.
 #[derive(Clone, Copy)]
 pub struct Limits {
     pub model: Model,

@@ -22,7 +22,8 @@ pub enum Variable {
     Second,
 }
 
-// A reach, and the most that it can multiply within the cap.
+// A reach, and the most that it can multiply within the cap. That it is so stays a clause (`Reached`): past the end of a list of reaches the
+// definitions have one of size 0, which an invariant would not allow.
 #[derive(Clone, Copy)]
 pub struct Reach {
     pub size: u64,

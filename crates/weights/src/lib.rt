@@ -10,12 +10,9 @@ ghost use Rattle.layout.specs.Sound.{within_cap};
 ghost use Rattle.layout.specs.Reaches.{reaches_of};
 ghost use Rattle.weights.specs.Ready.{high_in, AtLeastOne, Measured, GroupWeighable, Shareable, Checkable};
 
-use layout::{Kind, Model, REACHES_ROOM};
+use layout::{Kind, Model, PIECES, REACHES_ROOM};
 use polynomials::{CAP, Reach, add_row, weight_at};
 use std::array;
-
-// Low and high, each with a group of its own, which come first in a block.
-const PIECES: usize = 2;
 
 // The reaches of the given sizes, each with the most that it multiplies within the cap.
 fn all_reaches(sizes: [u64; REACHES_ROOM]) -> [Reach; REACHES_ROOM]
@@ -58,7 +55,7 @@ fn shared(model: Model, table: &[i64], start: usize, reaches: [Reach; REACHES_RO
 
 // Whether every coefficient's weight in both pieces is within the cap, at reaches of the given sizes. It goes over the blocks, the pieces and their
 // terms, a row of these at a time, and leaves at the first block and piece whose weight passes. What the pieces share is weighed once.
-// Document 01 names this form, nested loops over these that are left by a label (docs/TRACE.md): so no chain, and no call of `weight_at` for a piece.
+// The requirement names this form, nested loops over these that are left by a label (docs/TRACE.md): so no chain, and no call of `weight_at` for a piece.
 pub fn within_cap(model: Model, table: &[i64], sizes: [u64; REACHES_ROOM]) -> bool
     requires { Checkable (shape model) table.now sizes }
     ensures { result ≡ within_cap (shape model) table.now (reaches_of sizes) }
