@@ -49,8 +49,8 @@ fn put_bytes(word: u64, count: usize, out: &mut [u8], at: usize)
     }
 }
 
-// Eight digits from the place `at` on, zeros in front too. One function for two, four and eight, whatever is shared, is not laid into its
-// callers: it takes 603 or more in place of 505.
+// Eight digits from the place `at` on, zeros in front too. Four and two digits have functions of their own: one for all is called and not laid
+// into its callers, which takes 603 or more in place of 505.
 fn put_eight(n: u64, out: &mut [u8], at: usize)
     requires { (n < 100000000) × (at + 8 ≤ length out.old) }
     ensures { out.new ≡ sets out.old at (eight n) }
