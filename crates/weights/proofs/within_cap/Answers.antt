@@ -141,33 +141,24 @@ blocks-2-init c = (every-none _, refl)
 pub loop-piece-init : goal.loop-piece-init
 loop-piece-init c = (every-none _, c.blocks-2.invariant.1)
 
-pub overflow_add-from : goal.overflow_add-from
-overflow_add-from c =
+-- a piece's own group lies in the table
+lies : (c : goal.After-u-1) → c.start-start.result + c.size-size.result * c.loop-piece.piece + c.size-size.result ≤ length c.args.table.now
+lies c =
     let b = c.blocks-2.block in
     let below : b < (shape c.args.model).blocks = omega (arith, c.blocks-blocks.ensures) in
-    let e = end c.args.model c.args.table.now c.requires.whole c.all_reaches-reaches.ensures c.kind-own.ensures c.size-size.ensures b below c.start-start.ensures c.loop-piece.piece c.loop-piece-test.true in
-    omega (arith, e, few-table c.args.model, c.requires.whole)
+    end c.args.model c.args.table.now c.requires.whole c.all_reaches-reaches.ensures c.kind-own.ensures c.size-size.ensures b below c.start-start.ensures c.loop-piece.piece c.loop-piece-test.true
+
+pub overflow_add-from : goal.overflow_add-from
+overflow_add-from c = omega (arith, lies c, few-table c.args.model, c.requires.whole)
 
 pub overflow_add-to : goal.overflow_add-to
-overflow_add-to c =
-    let b = c.blocks-2.block in
-    let below : b < (shape c.args.model).blocks = omega (arith, c.blocks-blocks.ensures) in
-    let e = end c.args.model c.args.table.now c.requires.whole c.all_reaches-reaches.ensures c.kind-own.ensures c.size-size.ensures b below c.start-start.ensures c.loop-piece.piece c.loop-piece-test.true in
-    omega (arith, e, few-table c.args.model, c.requires.whole)
+overflow_add-to c = omega (arith, lies c, few-table c.args.model, c.requires.whole)
 
 pub offset_bounds-table-from : goal.offset_bounds-table-from
-offset_bounds-table-from c =
-    let b = c.blocks-2.block in
-    let below : b < (shape c.args.model).blocks = omega (arith, c.blocks-blocks.ensures) in
-    let e = end c.args.model c.args.table.now c.requires.whole c.all_reaches-reaches.ensures c.kind-own.ensures c.size-size.ensures b below c.start-start.ensures c.loop-piece.piece c.loop-piece-test.true in
-    omega (arith, e, few-table c.args.model, c.requires.whole)
+offset_bounds-table-from c = omega (arith, lies c, few-table c.args.model, c.requires.whole)
 
 pub slice_bounds-group-end : goal.slice_bounds-group-end
-slice_bounds-group-end c =
-    let b = c.blocks-2.block in
-    let below : b < (shape c.args.model).blocks = omega (arith, c.blocks-blocks.ensures) in
-    let e = end c.args.model c.args.table.now c.requires.whole c.all_reaches-reaches.ensures c.kind-own.ensures c.size-size.ensures b below c.start-start.ensures c.loop-piece.piece c.loop-piece-test.true in
-    omega (arith, e)
+slice_bounds-group-end c = omega (arith, lies c)
 
 pub loop-row-init : goal.loop-row-init
 loop-row-init c =
