@@ -93,12 +93,7 @@ fn put_wrote(lent: &Lent<i64>, into: &mut Space, out: &mut Answers) {
 }
 
 // What is said of a written table.
-pub fn settle(
-    outcome: Result<(), Refused>,
-    lent: &Lent<i64>,
-    into: &mut Space,
-    out: &mut Answers,
-) {
+pub fn settle(outcome: Result<(), Refused>, lent: &Lent<i64>, into: &mut Space, out: &mut Answers) {
     match outcome {
         Ok(()) => put_wrote(lent, into, out),
         Err(refused) => put_refused(refused, lent.is_untouched(), out),
