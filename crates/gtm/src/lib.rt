@@ -1,4 +1,5 @@
-// The published table of the GTM's longitudinal model.
+// The published table of the GTM's longitudinal model. What `cumulus` has too is called from C by a name for each: here it is one call of what
+// serves every model.
 #![tactic(auto)]
 
 ghost use Rattle.std.specs.Prelude.{◌≡◌};

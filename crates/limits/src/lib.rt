@@ -270,6 +270,7 @@ impl Limits {
         requires { (shape self.model).variables ≤ length state.now }
         ensures { result ≡ first (listed (shape self.model).variables (λ i. outside (shape self.model) i when not (inside (shape self.model) self.numbers (readings state.now) i))) }
     {
+        // over the room, which is a constant, so that the compiler unrolls it
         for variable in 0..VARIABLES_ROOM {
             if variable < shapes::variables(self.model) && !self.inside(variable, state[variable]) {
                 return shapes::outside(self.model, variable);
