@@ -55,6 +55,7 @@ fn read_each(model: Model, table: &[i64], states: &[i64], numbers: &mut [u64], o
 {
     let variables = shapes::variables(model);
     let blocks = shapes::blocks(model);
+    // by places and not `chunks_exact_mut`: once that borrow is over, a proof knows the length of `out` and no number
     for (k, number) in numbers.iter_mut().enumerate() {
         let from = variables * k;
         let at = blocks * k;
