@@ -6,11 +6,13 @@ ghost use Rattle.std.specs.Prelude.{◌≡◌};
 ghost use Rattle.layout.specs.Shape.{gtm};
 ghost use Rattle.layout.specs.Publishing.{publish_number, publish_output};
 ghost use Rattle.layout.specs.Reading.{readings, read_number, read_output};
+ghost use Rattle.layout.specs.Refusals.{given_back};
 ghost use Rattle.layout.specs.Moving.{move_number, move_output};
 ghost use Rattle.gtm_page.specs.Published.{published};
 
 use layout::Model;
 use layout::gtm_longitudinal::{TABLE, VARIABLES};
+use layout::refusals::Refused;
 use tables::reading::read_known;
 use tables::soundness::refusal_into;
 
@@ -90,28 +92,33 @@ const PUBLISHED: [i64; TABLE] = [
     135_600_000,
 ];
 
-// Writes the table to `out` and gives 0; 2 where `out` has another length, and `out` stays as it was.
-pub fn publish(out: &mut [i64]) -> u64
-    ensures number { result ≡ publish_number published out.old }
+// Writes the table to `out`, or refuses where `out` has another length and leaves it as it was.
+pub fn publish(out: &mut [i64]) -> Result<(), Refused>
+    ensures number { given_back result ≡ publish_number published out.old }
     ensures output { out.new ≡ publish_output published out.old }
 {
     tables::publishing::publish(&PUBLISHED, out)
 }
 
 // Reads lift, drag and pitching moment of a table at a state of two whole milliradians, alpha and eta, into `out`, or refuses and leaves `out` as it was.
-pub fn read(table: &[i64], state: [i64; VARIABLES], out: &mut [i64]) -> u64
-    ensures number { result ≡ read_number gtm table.now (readings state) out.old }
+pub fn read(table: &[i64], state: [i64; VARIABLES], out: &mut [i64]) -> Result<(), Refused>
+    ensures number { given_back result ≡ read_number gtm table.now (readings state) out.old }
     ensures output { out.new ≡ read_output gtm table.now (readings state) out.old }
 {
     let [alpha, eta] = state;
-    let refused = refusal_into(Model::Gtm, table, out.len());
-    read_known(Model::Gtm, table, refused, [alpha, eta, 0, 0, 0], out)
+    let known = refusal_into(Model::Gtm, table, out.len());
+    read_known(Model::Gtm, table, known, [alpha, eta, 0, 0, 0], out)
 }
 
 // Writes the table with the zero of one variable, alpha (0) or eta (1), moved by `shift` into `out`, or refuses and leaves `out` as it was. The moved
 // table answers at a reading less `shift` what this one answers at the reading.
-pub fn move_datum(table: &[i64], variable: usize, shift: i64, out: &mut [i64]) -> u64
-    ensures number { result ≡ move_number gtm table.now variable shift out.old }
+pub fn move_datum(
+    table: &[i64],
+    variable: usize,
+    shift: i64,
+    out: &mut [i64],
+) -> Result<(), Refused>
+    ensures number { given_back result ≡ move_number gtm table.now variable shift out.old }
     ensures output { out.new ≡ move_output gtm table.now variable shift out.old }
 {
     moving::move_datum(Model::Gtm, table, variable, shift, out)
