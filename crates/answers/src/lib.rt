@@ -1,4 +1,5 @@
-// Answering lines of readings: for each line the number given back and the six coefficients of a table, in decimal.
+// Answering lines of readings: for each line the number given back and the six coefficients of a table, in decimal. An output and a place in it are
+// two parameters, as in `printing`.
 #![tactic(auto)]
 
 ghost use Rattle.std.specs.Prelude.{◌≡◌, ◌+◌, ◌<◌, ◌≤◌, length};
@@ -23,7 +24,7 @@ const LONGEST_VALUES: usize = BLOCKS * (1 + LONGEST_NUMBER);
 // And a whole answer: the number given back, the coefficients and the newline.
 pub const LONGEST: usize = LONGEST_NUMBER + LONGEST_VALUES + 1;
 
-// The number given back for a line that is no five numbers, by which no operation refuses.
+// The number given back for a line that is no five numbers, by which no operation refuses, so that it is no `Refused`.
 const MALFORMED: u64 = 31;
 
 // What is known of the input from its bytes so far: the line that has not ended, and whether it has a byte. This is no Option, since `feed` and

@@ -1,4 +1,5 @@
-// One block of a table: the value of its coefficient, and its groups moved.
+// One block of a table: the value of its coefficient, and its groups moved. That an output is as long as what is moved stays a clause: no type says it
+// of two slices.
 #![tactic(auto)]
 
 ghost use Rattle.std.specs.Prelude.{◌≡◌, ◌≤◌, length, drop};

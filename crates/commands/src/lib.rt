@@ -345,7 +345,7 @@ fn sum(line: &[u8]) -> Command
     })
 }
 
-// What a command whose words fit asks for.
+// What a command whose words fit asks for. The cases stand here and not as functions in the table's rows, since the gate takes none that are handed out.
 fn asked(line: &[u8], name: Name) -> Command
     ensures { result ≡ asked name line.now }
 {

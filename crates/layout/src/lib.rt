@@ -28,7 +28,8 @@ pub enum Model {
     Gtm,
 }
 
-// One group of every block: its two variables by their numbers, and its degree.
+// One group of every block: its two variables by their numbers, and its degree. A variable stays a number: it is the place of its limits and of its
+// reading, and C hands one over that may be none.
 #[derive(Clone, Copy)]
 pub struct Kind {
     pub u: usize,

@@ -2,7 +2,7 @@
 // of an answer are compared with those that the second program works out; proved is that everything stays within its room.
 #![tactic(auto)]
 
-ghost use Rattle.std.specs.Prelude.{◌≤◌};
+ghost use Rattle.std.specs.Prelude.{◌≡◌, ◌≤◌, min, length};
 ghost use Rattle.spaces.specs.Sizes.{space_room};
 
 use layout::refusals::Refused;
@@ -37,7 +37,9 @@ pub struct Lent<T> {
 
 impl<T: Number> Lent<T> {
     // A room for so many numbers, but no more than a space has.
-    pub fn new(length: usize) -> Lent<T> {
+    pub fn new(length: usize) -> Lent<T>
+        ensures { result.length ≡ min length space_room }
+    {
         Lent {
             numbers: [T::PATTERN; LENT],
             length: length.min(ROOM),
@@ -45,14 +47,18 @@ impl<T: Number> Lent<T> {
     }
 
     // What is lent. Its end is taken first, since nothing may be read of the struct once a part of it is lent out.
-    pub fn part(&mut self) -> &mut [T] {
+    pub fn part(&mut self) -> &mut [T]
+        ensures { length result.now ≡ self.old.length }
+    {
         let end = MARGIN + self.length;
         let numbers = &mut self.numbers;
         let all = &mut numbers[..];
         &mut all[MARGIN..end]
     }
 
-    pub fn written(&self) -> &[T] {
+    pub fn written(&self) -> &[T]
+        ensures { length result.now ≡ self.now.length }
+    {
         let all = &self.numbers[..];
         &all[MARGIN..MARGIN + self.length]
     }

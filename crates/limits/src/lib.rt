@@ -33,7 +33,7 @@ const FINE_CUT: usize = 3;
 const THOUSAND: i64 = 1000;
 
 // The first numbers of a model's table, as many as any model has limits: its own come first. What its methods ask, limits in range or good, stays in
-// their clauses: each asks only what it needs, and a type of good limits would ask more of who wants a reach.
+// their clauses, as does that a variable is below five: each asks only what it needs, and a type of good limits would ask more of who wants a reach.
 #[derive(Clone, Copy)]
 pub struct Limits {
     pub model: Model,
@@ -73,7 +73,8 @@ impl Limits {
         2 * variable + 1 + shapes::fine_cuts(self.model)
     }
 
-    // The lowest reading of a variable.
+    // The lowest reading of a variable. Lowest and highest stay two: each is named where it is called, and an end as a parameter would be turned
+    // back into one of them here.
     pub fn lowest(self, variable: usize) -> i64
         requires { variable < variables_room }
         ensures { result ≡ lowest (shape self.model) self.numbers variable }
@@ -268,7 +269,7 @@ impl Limits {
         Ok(())
     }
 
-    // The fine cut of variable 0, where the model has one.
+    // The fine cut of variable 0, where the model has one. No Option: it is promised for every model, as the number at its place.
     pub fn fine_cut(self) -> i64
         ensures { result ≡ fine_cut (shape self.model) self.numbers }
     {

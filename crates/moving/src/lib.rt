@@ -19,7 +19,7 @@ use shifting::multiplied_out;
 use tables::soundness::soundness;
 use weights::within_cap;
 
-// No shift from one limit in range to another is longer.
+// No shift from one limit in range to another is longer. Variable and shift stay two parameters: C hands them over so, and each is refused by itself.
 const LONGEST: u64 = (MOST + MOST) as u64;
 
 // The reaches with each of one variable longer by `more`: variable 0 has the first two, and each other one.

@@ -12,7 +12,7 @@ ghost use Rattle.polynomials.specs.Ready.{Formed, Followable, Readable, Reached,
 // No weight may pass it: 9 x 10^18.
 pub const CAP: u64 = 9_000_000_000_000_000_000;
 
-// The highest total degree that a group may have.
+// The highest total degree that a group may have. A degree is no part of a group: in `microradians` one of degree 3 has room for degree 4.
 const HIGHEST_DEGREE: usize = 4;
 
 // One of the two variables of a group.

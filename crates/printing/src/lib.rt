@@ -1,5 +1,6 @@
 // Printing whole numbers in decimal, into an output that the caller lends. An output and a place in it are two parameters: as one struct of
 // both, the seven numbers of an answer took 600 instructions in place of 505, so that is kept. Below, `505` is this count.
+// That a part is below 10^8, and that there is room for its digits, are clauses for the same reason. The library's printing does not say which bytes.
 #![tactic(auto)]
 
 ghost use Rattle.std.specs.Prelude.{◌≡◌, [], ◌∷◌, ◌++◌, ℕ, ◌+◌, ◌*◌, ◌/◌, ◌%◌, ◌<◌, ◌≤◌, length};

@@ -12,7 +12,7 @@ use spaces::reasons::Reason;
 use spaces::rooms::ROOM;
 use texts::Answers;
 
-// What the library reads, by the model of the state.
+// What the library reads, by the model of the state: the desk calls what a user calls, who has a function for each.
 fn read_table(table: &[i64], state: State, out: &mut [i64]) -> Result<(), Refused> {
     match state {
         State::Cumulus {

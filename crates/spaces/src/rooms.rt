@@ -1,5 +1,5 @@
 // The spaces: each is a room for numbers, of which the first ones are its numbers. The room is no Vec, since there is no heap.
-ghost use Rattle.std.specs.Prelude.{◌<◌, ◌≤◌, MatchResult, length};
+ghost use Rattle.std.specs.Prelude.{◌≡◌, ◌<◌, ◌≤◌, min, MatchResult, length};
 ghost use Rattle.spaces.specs.Sizes.{space_room};
 
 use super::drawing::draw;
@@ -18,7 +18,9 @@ pub struct Space {
 
 impl Space {
     // A space of zeros, no longer than its room.
-    pub fn new(length: usize) -> Space {
+    pub fn new(length: usize) -> Space
+        ensures { result.length ≡ min length space_room }
+    {
         Space {
             room: [0; ROOM],
             length: length.min(ROOM),
@@ -26,12 +28,16 @@ impl Space {
     }
 
     pub fn numbers(&self) -> &[i64]
-        ensures { length result.now ≤ space_room }
+        ensures count { length result.now ≡ self.now.length }
+        ensures room { length result.now ≤ space_room }
     {
         &self.room[..self.length]
     }
 
-    pub fn set(&mut self, place: u64, number: i64) -> Result<(), Reason> {
+    pub fn set(&mut self, place: u64, number: i64) -> Result<(), Reason>
+        ensures which { MatchResult result (λ _. place < self.old.length) (λ _. self.old.length ≤ place) }
+        ensures kept { self.new.length ≡ self.old.length }
+    {
         if place as usize >= self.length {
             return Err(Reason::NoPlace);
         }
@@ -40,7 +46,10 @@ impl Space {
     }
 
     // Draws numbers from a place on.
-    pub fn fill(&mut self, place: u64, step: u64, size: u64, seed: u64) -> Result<(), Reason> {
+    pub fn fill(&mut self, place: u64, step: u64, size: u64, seed: u64) -> Result<(), Reason>
+        ensures which { MatchResult result (λ _. place < self.old.length) (λ _. self.old.length ≤ place) }
+        ensures kept { self.new.length ≡ self.old.length }
+    {
         let from = place as usize;
         if from >= self.length {
             return Err(Reason::NoPlace);
@@ -50,7 +59,9 @@ impl Space {
     }
 
     // Its numbers become those, as many as it has room for.
-    pub fn write(&mut self, numbers: &[i64]) {
+    pub fn write(&mut self, numbers: &[i64])
+        ensures { self.new.length ≡ min (length numbers.now) space_room }
+    {
         let count = numbers.len().min(ROOM);
         // The 0 is needed: with `..count` the borrow checker has no rule for a field beside an invariant.
         self.room[0..count].copy_from_slice(&numbers[..count]);

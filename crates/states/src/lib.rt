@@ -47,7 +47,7 @@ fn read_cleared(
     read_sound(model, table, state, out)
 }
 
-// Reads each state of a sound table.
+// Reads each state of a sound table. What a state is given is its number and no outcome, since C has numbers there.
 fn read_each(model: Model, table: &[i64], states: &[i64], numbers: &mut [u64], out: &mut [i64])
     requires { SoundReads (shape model) table.now states.now (length numbers.old) out.old }
     ensures numbers { numbers.new ≡ listed (length numbers.old) (number_at (shape model) table.now states.now) }

@@ -42,6 +42,7 @@ pub fn read<R: Read>(from: &mut R, buf: &mut [u8]) -> io::Result<usize>
 
 // Writes some of buf's first bytes, or fails. The loop is that of `read` with another call: one over a closure would have to say in its
 // contract what any closure's calls leave behind, which is longer than the loop.
+// That an error which passes is tried again is said of each of the three results, since each is a caller's own.
 fn write_some<W: Write>(to: &mut W, buf: &[u8]) -> io::Result<usize>
     ensures count { Got (length buf.now) result }
     ensures bytes { Gave (W.contents to.old) (W.contents to.new) buf.now result }

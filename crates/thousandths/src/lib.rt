@@ -1,4 +1,5 @@
 // Whether a float is at most a number of thousandths, as exact numbers. Whole numbers decide, for a product or a quotient of floats is rounded.
+// That a float is near stays a clause: a type of near floats would be made and opened for each reading.
 #![tactic(auto)]
 
 ghost use Rattle.std.specs.Prelude.{◌≡◌, ◌^◌};

@@ -3,7 +3,7 @@
 ghost use Rattle.std.specs.Prelude.{◌≡◌, ◌+◌, ◌/◌, ◌^◌, ◌<◌, pos, nat_abs, ◌<ℤ◌};
 ghost use Rattle.whole.specs.Nearest.{nearest_away};
 
-// The distance of `x` from 0, at the least i64 too, whose negation does not fit an i64.
+// The distance of `x` from 0, at the least i64 too, whose negation does not fit an i64. It is the library's, under a name that promises are made of.
 pub fn magnitude(x: i64) -> u64
     ensures { result ≡ nat_abs x }
 {

@@ -9,7 +9,7 @@ use spaces::reasons::Reason;
 use spaces::rooms::{ROOM, Space};
 use texts::Answers;
 
-// What the library writes, by its model.
+// What the library writes, by its model: the desk calls what a user calls, who has a function for each.
 fn publish_table(model: Model, out: &mut [i64]) -> Result<(), Refused> {
     match model {
         Model::Cumulus => cumulus::publish(out),
