@@ -75,7 +75,8 @@ fn move_part(from: &[i64], out: &mut [i64], kind: Kind, variable: usize, rows: &
     copy(from, out);
 }
 
-// The group that stands from `start` to `end` of a block, moved, at the same places of the output.
+// The group that stands from `start` to `end` of a block, moved, at the same places of the output. As slices the two would be cut at each of three
+// calls.
 fn move_between(
     from: &[i64],
     out: &mut [i64],

@@ -197,7 +197,8 @@ fn fit(line: &[u8], kinds: &[Kind]) -> bool
         && !has_word(line, kinds.len() + 1)
 }
 
-// What each name asks for, from the words behind it.
+// What each name asks for, from the words behind it. A function for each, also where two have one shape: their fields have other names, and a
+// function over these would be longer.
 fn publish(line: &[u8], model: Model) -> Command
     ensures { result ≡ publish model line.now }
 {

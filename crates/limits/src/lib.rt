@@ -141,7 +141,8 @@ impl Limits {
     fn others_good(self) -> bool
         ensures { result ≡ others_good (shape self.model) self.numbers }
     {
-        // by hand, and the tests of good limits joined by `&`: a read takes 32 instructions more with `all` or a `for`, and 115 with `&&`
+        // by hand, and the tests of good limits joined by `&`: with `all` or a `for` a read takes 3750 instructions in place of 3718, which is past the
+        // bar of docs/DESIGN-PASS.md, and with `&&` more still
         let mut variable: usize = 1;
         while variable < VARIABLES_ROOM {
             if !self.variable_good(variable) {

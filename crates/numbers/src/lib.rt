@@ -67,7 +67,8 @@ pub fn is_number(line: &[u8], k: usize, kind: Kind) -> bool
     }
 }
 
-// The number of a word; 0 where there is none or it says none of its kind. The base stays in the names, and the place a parameter:
+// The number of a word; 0 where there is none or it says none of its kind. No Option: the contracts
+// say 0, and the words of a command are tried before. The base stays in the names, and the place a parameter:
 // a base, or a word looked up and perhaps absent, would stand at each call.
 pub fn natural_at(line: &[u8], k: usize) -> u64
     ensures { result ≡ natural_at line.now k }

@@ -40,7 +40,7 @@ fn nearest_magnitude(a: f64) -> u64
 }
 
 // The whole number nearest to x, a half away from zero; for both zeros it is 0.
-// Tried by std's `round`, which gives the same: 29 instructions more a reading.
+// Tried by std's `round`, which gives the same: 29 instructions more a reading. That x is near stays a clause, as in `thousandths`.
 fn nearest_whole(x: f64) -> i64
     requires { Near x }
     ensures { result ≡ whole_of x }

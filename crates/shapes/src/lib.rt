@@ -10,7 +10,8 @@ ghost use Rattle.layout.specs.Refusals.{place, refusal_number, outside};
 use layout::refusals::{Angle, Refused};
 use layout::{Kind, Model, cumulus_one, gtm_longitudinal};
 
-// A constant of a model's tables, which both models have by the same name.
+// A constant of a model's tables, which both models have by the same name. They are two modules and no struct for each, since lengths of arrays are
+// made of them.
 macro_rules! of_model {
     ($model:expr, $name:ident) => {
         match $model {

@@ -81,6 +81,7 @@ fn gap(degree: usize, which: Variable) -> usize
 
 // The number that stands before the power p of the variable beside the power `beside` of the other, at the place `at`, once the group is
 // moved: the larger powers of the variable stand further and further on, and each gives its number times what stands before p in its row.
+// Group and place stay two: the contract is over the whole group.
 fn moved_number(
     from: &[i64],
     which: Variable,

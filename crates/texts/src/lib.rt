@@ -16,8 +16,8 @@ pub const OUT: usize = 65536;
 // The most bytes of a line.
 pub const LINE: usize = 256;
 
-// The first bytes of a line and how many are held: one more than there is room for where the line is too long. The room is no Vec, since
-// there is no heap.
+// The first bytes of a line and how many are held: one more than there is room for where the line is too long, which is a number and
+// no enum, as `hold` promises it. The room is no Vec, since there is no heap.
 #[derive(Drop)]
 pub struct Line {
     pub bytes: [u8; LINE],

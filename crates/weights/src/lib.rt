@@ -22,7 +22,8 @@ fn all_reaches(sizes: [u64; REACHES_ROOM]) -> [Reach; REACHES_ROOM]
     array::from_fn(|k| Reach::of(sizes[k]))
 }
 
-// The weight of the group of a kind that starts at a place, at the reaches of the high piece, or nothing where it passes the cap.
+// The weight of the group of a kind that starts at a place, at the reaches of the high piece, or nothing where it passes the cap. It is told by
+// its start, since only the kind says where it ends.
 fn weight_of(table: &[i64], at: usize, kind: Kind, reaches: [Reach; REACHES_ROOM]) -> Option<u64>
     requires { GroupWeighable table.now at kind reaches }
     ensures { result ≡ against (weight_of (led kind (drop at table.now)) (high_in reaches)) }
