@@ -4,6 +4,9 @@
 
 mod uses;
 
+ghost use Rattle.std.specs.Prelude.{◌≤◌, length};
+ghost use Rattle.texts.specs.Room.{answers_room};
+
 use commands::{Command, command_of};
 use operations::operate;
 use spaces::keeping::keep;
@@ -28,7 +31,9 @@ fn obey(line: &[u8], spaces: &mut Spaces, out: &mut Answers) -> Result<(), Reaso
 }
 
 // Answers a line with a line.
-pub fn answer(line: &Line, spaces: &mut Spaces, out: &mut Answers) {
+pub fn answer(line: &Line, spaces: &mut Spaces, out: &mut Answers)
+    ensures { length out.new ≤ answers_room }
+{
     match line.text() {
         Some(text) => {
             if let Err(reason) = obey(text, spaces, out) {
@@ -37,5 +42,5 @@ pub fn answer(line: &Line, spaces: &mut Spaces, out: &mut Answers) {
         }
         None => out.put("? a line has at most 256 bytes"),
     }
-    out.put("\n");
+    out.put_text(b"\n");
 }
