@@ -32,14 +32,9 @@ impl Desk {
         Ok(())
     }
 
-    // Writes out what is there first, where the longest answer has no room behind it.
-    fn answer<W: Write>(&mut self, to: &mut W) -> io::Result<()> {
-        if self.answers.room() < LONGEST {
-            self.write_out(to)?;
-        }
+    fn answer(&mut self) {
         scripts::answer(&self.line, &mut self.spaces, &mut self.answers);
         self.line.clear();
-        Ok(())
     }
 }
 
@@ -47,7 +42,12 @@ impl Answering for Desk {
     fn take_piece<W: Write>(&mut self, piece: &[u8], to: &mut W) -> io::Result<()> {
         for byte in piece {
             if *byte == b'\n' {
-                self.answer(to)?;
+                // What is there is written out first where the longest answer has no room behind it. Asked here, since what a write came to is large,
+                // and most lines write nothing.
+                if self.answers.room() < LONGEST {
+                    self.write_out(to)?;
+                }
+                self.answer();
             } else {
                 self.line.hold(*byte);
             }
@@ -55,12 +55,12 @@ impl Answering for Desk {
         self.write_out(to)
     }
 
-    // Answers a last line that no newline ends.
+    // Answers a last line that no newline ends. The answers before it are written out with their piece.
     fn finish<W: Write>(&mut self, to: &mut W) -> io::Result<()> {
         if self.line.is_empty() {
             return Ok(());
         }
-        self.answer(to)?;
+        self.answer();
         self.write_out(to)
     }
 }

@@ -33,6 +33,7 @@ fn lend(room: u64) -> Result<Lent<i64>, Reason> {
     Ok(Lent::new(room as usize))
 }
 
+#[inline(never)]
 pub fn read(table: &[i64], room: u64, state: State, out: &mut Answers) -> Result<(), Reason> {
     let mut lent = lend(room)?;
     let outcome = read_table(table, state, lent.part());
@@ -40,6 +41,7 @@ pub fn read(table: &[i64], room: u64, state: State, out: &mut Answers) -> Result
     Ok(())
 }
 
+#[inline(never)]
 pub fn read_microradians(
     room: u64,
     readings: [i64; VARIABLES],
@@ -51,6 +53,7 @@ pub fn read_microradians(
     Ok(())
 }
 
+#[inline(never)]
 pub fn read_floats(table: &[i64], readings: [u64; VARIABLES], out: &mut Answers) {
     put_answer(door::read_floats(table, floats_of(readings)), out);
 }

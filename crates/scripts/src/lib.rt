@@ -42,5 +42,5 @@ pub fn answer(line: &Line, spaces: &mut Spaces, out: &mut Answers)
         }
         None => out.put("? a line has at most 256 bytes"),
     }
-    out.put_text(b"\n");
+    out.put_byte(b'\n');
 }

@@ -19,6 +19,7 @@ fn sum(space: &Space, out: &mut Answers) {
     out.put(format_args!("{count} sum {sum}"));
 }
 
+#[inline(never)]
 pub fn keep(keeping: Keeping, spaces: &mut Spaces, out: &mut Answers) -> Result<(), Reason> {
     match keeping {
         Keeping::Length { space, count } => spaces.get_mut(space)?.set_length(count)?,

@@ -2,7 +2,7 @@
 // cut off.
 #![tactic(auto)]
 
-ghost use Rattle.std.specs.Prelude.{◌≡◌, ◌≤◌, ◌<◌, ◌+◌, ◌++◌, ◌↔◌, IsTrue, List, MatchOption, [], ℕ, length, take};
+ghost use Rattle.std.specs.Prelude.{◌≡◌, ◌≤◌, ◌<◌, ◌+◌, ◌++◌, ◌↔◌, IsTrue, List, MatchOption, [], ◌∷◌, ℕ, length, take};
 ghost use Rattle.texts.specs.Held.{held_after, line_after, longest_line};
 ghost use Rattle.texts.specs.Room.{answers_room};
 
@@ -116,6 +116,16 @@ impl Answers {
         let count = text.len().min(OUT - self.end);
         self.bytes[self.end..self.end + count].copy_from_slice(&text[..count]);
         self.end += count;
+    }
+
+    // A byte alone, as the newline of each answer, for which a copy of a text is a call.
+    pub fn put_byte(&mut self, byte: u8)
+        ensures { self.new ≡ take answers_room (self.old ++ byte ∷ []) }
+    {
+        if self.end < OUT {
+            self.bytes[self.end] = byte;
+            self.end += 1;
+        }
     }
 
     // Nothing is said of the bytes: a value's own printing may break off.

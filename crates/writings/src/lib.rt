@@ -30,12 +30,14 @@ fn move_table(
     }
 }
 
+#[inline(never)]
 pub fn publish(model: Model, into: &mut Space, out: &mut Answers) {
     let mut lent = Lent::new(into.numbers().len());
     let outcome = publish_table(model, lent.part());
     settle(outcome, &lent, into, out);
 }
 
+#[inline(never)]
 pub fn move_zero(
     model: Model,
     table: &[i64],
@@ -50,6 +52,7 @@ pub fn move_zero(
 }
 
 // There is room for what so many states are given.
+#[inline(never)]
 pub fn read_many(
     table: &[i64],
     states: &[i64],

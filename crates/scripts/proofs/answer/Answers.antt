@@ -8,4 +8,4 @@ short : (n : ℕ) (l : List ℕ) → length (take n l) ≤ n
 short n l = rw (length-take n l) (grind arith)
 
 pub returns : goal.returns
-returns c = subst (λ l. length l ≤ answers_room) (sym c.put_text.ensures) (short answers_room _)
+returns c = subst (λ l. length l ≤ answers_room) (sym c.put_byte.ensures) (short answers_room _)

@@ -1,22 +1,31 @@
--- The chain yields the words, and each is a part of the line.
-use Rattle.std.proofs.Common.{◌≡◌, ◌==◌, not, length, List, ℕ, Bor, Option, Some, None, IfSome, sym, rules, tests}
+-- Behind so many first words stands the word, and each word is a part of the line.
+use Rattle.std.proofs.Common.{◌≡◌, List, ℕ, Bor, Option, Some, None, IfSome, slice_get, sym, ◌∙◌, ap, arith}
 use Rattle.std.specs.Option.{option_map}
 use Rattle.std.specs.Str.Iter.{HasSubslice}
-use Rattle.std.proofs.lemmas.Iterator.Consumers.{YieldsList-at, YieldsList-from_filter, nth_from_yields_List}
-use Rattle.std.proofs.lemmas.Iterator.Splits.{YieldsList-from_slice_split}
 use Rattle.words.specs.Words.{words, word_at}
 use Rattle.words.proofs.Parts.{word-part}
+use Rattle.words.proofs.Runs.{none-there, there, one-more}
 use Rattle.words.proofs.word_at.Goals as goal
 
+pub returns-in_err-behind-clause-word : goal.returns-in_err-behind-clause-word
+returns-in_err-behind-clause-word c =
+    rw c.from_residual.ensures (sym (none-there (words c.args.line.now) c.loop.counter c.args.k (omega arith) (c.loop.invariant ∙ c.in_err-behind.ensures)))
+
+pub loop-preserved : goal.loop-preserved
+loop-preserved c = one-more (words c.args.line.now) c.loop.counter _ _ (c.loop.invariant ∙ c.in_ok-behind.ensures)
+
+pub returns-in_err-word-clause-word : goal.returns-in_err-word-clause-word
+returns-in_err-word-clause-word c =
+    rw c.from_residual-in_err-word.ensures (sym (none-there (words c.args.line.now) c.loop.counter c.args.k (omega arith) (c.loop.invariant ∙ c.in_err-word.ensures)))
+
 pub returns-clause-word : goal.returns-clause-word
-unfolding words
 returns-clause-word c =
-    nth_from_yields_List _ _ c.args.k c.nth.ensures.ran
-    (YieldsList-from_filter _ (λ part. not (length part == 0)) (YieldsList-at c.filter.ensures.source (YieldsList-from_slice_split _ (λ b. b == 32) c.args.line.now c.split.ensures.rest c.split.ensures.done c.split.ensures.closure (λ x r q k. search (rules, tests)))) c.filter.ensures.closure (λ x r q k. search (rules, tests)))
+    let end : c.loop.counter ≡ c.args.k = omega arith in
+    sym (ap (slice_get (words c.args.line.now)) (sym end) ∙ there (words c.args.line.now) c.loop.counter _ _ (c.loop.invariant ∙ c.in_ok-word.ensures))
 
 part : (line : List ℕ) (k : ℕ) (found : Option (Bor (List ℕ))) → option_map (λ word. word.now) found ≡ word_at line k → IfSome found (λ word. HasSubslice line word.now)
 part line k None e = tt
 part line k (Some word) e = word-part line k word.now (sym e)
 
 pub returns-clause-part : goal.returns-clause-part
-returns-clause-part c = part c.args.line.now c.args.k c.nth.result (returns-clause-word c)
+returns-clause-part c = part c.args.line.now c.args.k (Some c.in_ok-word.word) (returns-clause-word c)
