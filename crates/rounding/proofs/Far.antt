@@ -1,10 +1,8 @@
 -- A float beyond `farthest_near` either way lies outside of any limits, and every other finite float is near.
 --   far-below, far-above   beyond it, the whole number passes any such limit
 --   near                   within it, the float can be rounded
---   finite-told            std's test for a finite float is the kit's
-use Rattle.std.proofs.Common.{◌≡◌, ℕ, ◌*◌, ◌<◌, ◌≤◌, true, false, T, ℤ, pos, neg_ℤ, nat_abs, ◌<ℤ◌, refl, le_trans, le-div_iff_mul-le, arith, ltb-false, ltb-true}
+use Rattle.std.proofs.Common.{◌≡◌, ℕ, ◌*◌, ◌<◌, ◌≤◌, true, false, T, ℤ, pos, neg_ℤ, nat_abs, ◌<ℤ◌, le_trans, le-div_iff_mul-le, arith, ltb-false, ltb-true}
 use mathlib.Core.Bool.{false≢true}
-use Rattle.std.specs.Float.{float_is_finite}
 use lib.Ieee.{Float, nan, inf, fin, up, down, lt}
 use lib.Ieee.Fits.{down_pos}
 use lib.Ieee.Scale.{finite}
@@ -50,9 +48,3 @@ near nan f h g = absurd f
 near (inf s) f h g = absurd f
 near (fin true m e) f h g = record { finite = tt; small = omega (arith, ltb-false) }
 near (fin false m e) f h g = record { finite = tt; small = omega (arith, ltb-false) }
-
-pub finite-told : (x : Float) → float_is_finite x ≡ finite x
-unfolding float_is_finite
-finite-told nan = refl
-finite-told (inf s) = refl
-finite-told (fin s m e) = refl

@@ -4,6 +4,7 @@
 ghost use Rattle.std.specs.Prelude.{◌≡◌, ◌+◌, ◌*◌, ◌≤◌, false, T, unsigned_abs};
 ghost use Rattle.std.specs.Float.Ieee.Exact.{HasValue};
 ghost use Rattle.std.specs.Float.Ieee.Positive.{num, den, positive};
+ghost use Rattle.std.specs.Float.Ieee.Scale.{finite};
 ghost use Rattle.whole.specs.Nearest.{nearest_up};
 ghost use Rattle.rounding.specs.Reading.{whole_of, step_of};
 ghost use Rattle.rounding.specs.Ready.{farthest_end, farthest_near, Near};
@@ -54,13 +55,21 @@ fn nearest_whole(x: f64) -> i64
     }
 }
 
+// Whether x lies between the infinities, as a NaN does not. The library's own test subtracts x from itself, by which an infinity raises the
+// processor's flag for an invalid operation; these comparisons leave a host's flags as they are.
+fn is_finite(x: f64) -> bool
+    ensures { result ≡ finite x }
+{
+    f64::NEG_INFINITY < x && x < f64::INFINITY
+}
+
 // The nearest whole number to x where it lies within the limits; a float that is not near lies outside of any.
 pub fn step_of(x: f64, lowest: i64, highest: i64) -> Result<i64, Unread>
     requires lowest_in_range { unsigned_abs lowest ≤ farthest_end }
     requires highest_in_range { unsigned_abs highest ≤ farthest_end }
     ensures { result ≡ step_of x lowest highest }
 {
-    if !x.is_finite() {
+    if !is_finite(x) {
         return Err(Unread::NotFinite);
     }
     if x < LEAST_NEAR || MOST_NEAR < x {
