@@ -22,7 +22,7 @@ struct Trimcard {
 }
 
 impl Answering for Trimcard {
-    ghost takes = { λ before piece after. after.reading ≡ readings_after before.reading piece };
+    ghost takes = { λ before piece after. (after.table ≡ before.table) × (after.reading ≡ readings_after before.reading piece) };
 
     // There is a write each time the output is full.
     fn take_piece<W: Write>(&mut self, piece: &[u8], to: &mut W) -> io::Result<()> {

@@ -11,8 +11,11 @@ loop-rest-preserved g c =
     let rest = c.loop-rest.rest.now in
     let fed = c.feed-fed in
     let n = fed.result.taken in
-    ap (readings_after fed.result.reading) (take_rest rest n)
-    ∙ ap (λ after. readings_after after (drop n rest)) fed.ensures.reading
-    ∙ sym (readings-append before (take n rest) (drop n rest))
-    ∙ ap (readings_after before) (take-append-drop n rest)
-    ∙ c.loop-rest.invariant
+    let (table, read) = c.loop-rest.invariant in (
+      table,
+      ap (readings_after fed.result.reading) (take_rest rest n)
+          ∙ ap (λ after. readings_after after (drop n rest)) fed.ensures.reading
+          ∙ sym (readings-append before (take n rest) (drop n rest))
+          ∙ ap (readings_after before) (take-append-drop n rest)
+          ∙ read,
+    )
