@@ -158,6 +158,10 @@ reach-of-tight κs a o p = tight o p (same-reach o.allowed p.allowed, tt)
 pub number-at-tight : Tight polynomials.number_at.ended polynomials'.number_at.Reads.Post
 number-at-tight κs a o p = tight o p (search same)
 
+-- of whichever product
+pub product-times-tight : (P : RattleType) (L : Laws P) (G : product.Ghosts P.Denot) (D : Dict) → Tight (polynomials.Product.times.ended P G D) (polynomials'.Product.times.Reads.Post P L G D)
+product-times-tight P L G D κs a o p = tight o p (search same)
+
 -- over whichever product
 pub group-at-tight : (P : RattleType) (L : Laws P) (G : product.Ghosts P.Denot) (D : Dict) → Tight (polynomials.group_at.ended P G D) (polynomials'.group_at.Reads.Post P L G D)
 group-at-tight P L G D κs a o p = tight o p (search same)
